@@ -1,0 +1,11 @@
+pub mod Causes
+pub mod Feeds
+pub mod Files
+pub mod Lines
+pub mod MemShelf
+pub mod MemSink
+pub mod MemSource
+pub mod Number
+pub mod Outside
+pub mod StdSink
+pub mod StdSource

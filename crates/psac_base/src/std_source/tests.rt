@@ -1,0 +1,40 @@
+use super::StdSource;
+use crate::{Source, SourceFailed};
+use std::fs;
+use std::io::{self, ErrorKind, Read};
+use std::test::Fail;
+
+// Gives one byte, then fails once, then is at its end.
+#[derive(Drop)]
+struct FailsAfterOne(u8);
+
+impl Read for FailsAfterOne {
+    fn read(&mut self, into: &mut [u8]) -> io::Result<usize> {
+        self.0 = self.0.saturating_add(1);
+        match (self.0, into.first_mut()) {
+            (1, Some(place)) => {
+                *place = b'a';
+                Ok(1)
+            }
+            (2, _) => Err(io::Error::from(ErrorKind::BrokenPipe)),
+            _ => Ok(0),
+        }
+    }
+}
+
+#[test]
+fn faults_are_the_readers(rt: HostRuntime) -> Result<(), Fail> {
+    let mut into = [0u8; 4];
+    let mut source = StdSource::new(FailsAfterOne(0));
+    assert_eq!(rt; source.read(&mut into), Ok(1));
+    assert_eq!(rt; (into[0], source.taken, source.faults), (b'a', 1, 0));
+    assert_eq!(rt; source.read(&mut into), Err(SourceFailed));
+    assert_eq!(rt; (source.taken, source.faults), (1, 1));
+    assert_eq!(rt; source.read(&mut into), Ok(0));
+    assert_eq!(rt; (source.taken, source.faults), (1, 1));
+    // A folder can be opened and not be read.
+    let mut source = StdSource::new(fs::open(&rt, ".")?);
+    assert_eq!(rt; source.read(&mut into), Err(SourceFailed));
+    assert_eq!(rt; (source.taken, source.faults), (0, 1));
+    Ok(())
+}
