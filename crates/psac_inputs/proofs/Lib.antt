@@ -1,0 +1,3 @@
+pub mod GridRows
+pub mod LineParts
+pub mod IntCells
