@@ -1,0 +1,13 @@
+//! Tokens of a program's text, each with its place.
+#![tactic(auto)]
+
+mod front;
+mod numbering;
+mod place;
+#[cfg(test)]
+mod tests;
+mod token;
+mod tokens;
+
+pub use token::{Kind, NOTHING, Token};
+pub use tokens::{Lexed, lex};
