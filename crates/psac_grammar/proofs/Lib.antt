@@ -1,0 +1,5 @@
+pub mod Runs
+pub mod Complete
+pub mod Programs
+pub mod Sound
+pub mod Whole

@@ -1,0 +1,4 @@
+pub mod Marked
+pub mod Grammar
+pub mod Language
+pub mod Machine

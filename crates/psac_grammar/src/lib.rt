@@ -1,0 +1,2 @@
+//! The grammar of programs.
+#![tactic(auto)]
