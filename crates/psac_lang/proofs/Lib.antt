@@ -1,0 +1,4 @@
+pub mod Moves
+pub mod Operands
+pub mod Bodies
+pub mod Answered
