@@ -1,0 +1,12 @@
+pub mod Names
+pub mod Expression
+pub mod Tree
+pub mod Run
+pub mod Fresh
+pub mod Outputs
+pub mod Redo
+pub mod Work
+pub mod Series
+pub mod Plain
+pub mod Valued
+pub mod Ruled
