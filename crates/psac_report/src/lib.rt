@@ -1,0 +1,2 @@
+//! What a session answers and what is printed.
+#![tactic(auto)]
