@@ -1,0 +1,11 @@
+pub mod Uneven
+pub mod Arity
+pub mod Binds
+pub mod Parts
+pub mod Arms
+pub mod Lists
+pub mod Linked
+pub mod Cells
+pub mod Pushed
+pub mod Beginning
+pub mod Tells
