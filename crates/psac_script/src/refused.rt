@@ -1,0 +1,71 @@
+// The lines for words, a program or an input that isn't accepted.
+ghost use Rattle.std.specs.Prelude.{◌≡◌, IfOk};
+ghost use Rattle.psac_report.specs.Refused.{usage_line, syntax_line, limit_line, program_line, input_line, record_line};
+
+use crate::text::push_number;
+use psac_base::NoMemory;
+use psac_inputs::InputFault;
+use std::alloc::Global;
+
+/// The line that says how the program is called.
+pub fn usage_line() -> &'static [u8]
+    ensures { result.now ≡ usage_line }
+{
+    b"usage: psac MODE PROGRAM INPUT [--workers N] [--nodes N] [--mods N] [--links N] [--rows N]\n"
+}
+
+/// The line of a program that leaves the grammar, with the place.
+pub fn syntax_line(alloc: Global, line: u32, column: u32) -> Result<Vec<u8>, NoMemory>
+    ensures { IfOk result (λ text. text.items ≡ syntax_line line column) }
+{
+    let mut told = Vec::new(alloc);
+    told.extend_from_slice(b" column ")?;
+    push_number(&mut told, u64::from(column))?;
+    told.extend_from_slice(b" syntax")?;
+    program_line(alloc, line, &told)
+}
+
+/// The line of a program that exceeds a limit, with the number of the limit.
+pub fn limit_line(alloc: Global, which: u8, line: u32) -> Result<Vec<u8>, NoMemory>
+    ensures { IfOk result (λ text. text.items ≡ limit_line which line) }
+{
+    let mut told = Vec::new(alloc);
+    told.extend_from_slice(b" limit ")?;
+    push_number(&mut told, u64::from(which))?;
+    program_line(alloc, line, &told)
+}
+
+fn program_line(alloc: Global, line: u32, told: &[u8]) -> Result<Vec<u8>, NoMemory>
+    ensures { IfOk result (λ text. text.items ≡ program_line line told.now) }
+{
+    let mut text = Vec::new(alloc);
+    text.extend_from_slice(b"program line ")?;
+    push_number(&mut text, u64::from(line))?;
+    text.extend_from_slice(told)?;
+    text.push(b'\n')?;
+    Ok(text)
+}
+
+/// The line of an input that isn't taken, with the number of the record. Of want of memory it is empty.
+pub fn input_line(alloc: Global, fault: InputFault) -> Result<Vec<u8>, NoMemory>
+    ensures { IfOk result (λ text. text.items ≡ input_line fault) }
+{
+    match fault {
+        InputFault::Utf8 { at } => record_line(alloc, at, b" not utf-8"),
+        InputFault::Ragged { at } => record_line(alloc, at, b" ragged"),
+        InputFault::Cells { at } => record_line(alloc, at, b" too many cells"),
+        InputFault::Texts { at } => record_line(alloc, at, b" too many texts"),
+        InputFault::NoMemory => Ok(Vec::new(alloc)),
+    }
+}
+
+fn record_line(alloc: Global, at: u32, told: &[u8]) -> Result<Vec<u8>, NoMemory>
+    ensures { IfOk result (λ text. text.items ≡ record_line at told.now) }
+{
+    let mut text = Vec::new(alloc);
+    text.extend_from_slice(b"input record ")?;
+    push_number(&mut text, u64::from(at))?;
+    text.extend_from_slice(told)?;
+    text.push(b'\n')?;
+    Ok(text)
+}
