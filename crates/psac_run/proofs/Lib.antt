@@ -1,0 +1,4 @@
+pub mod Told
+pub mod Opens
+pub mod Finished
+pub mod Complete
