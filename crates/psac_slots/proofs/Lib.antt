@@ -1,0 +1,12 @@
+pub mod Sums
+pub mod Turns
+pub mod Removed
+pub mod Keeps
+pub mod Rewinds
+pub mod Opens
+pub mod Acts
+pub mod Carrying
+pub mod Drawing
+pub mod Pairs
+pub mod Dividing
+pub mod Kept

@@ -1,0 +1,9 @@
+pub mod Branches
+pub mod Handles
+pub mod Free
+pub mod Passes
+pub mod Claiming
+pub mod Steps
+pub mod Divided
+pub mod Carried
+pub mod Promised
