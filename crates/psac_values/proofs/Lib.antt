@@ -1,0 +1,7 @@
+pub mod Words
+pub mod Keeps
+pub mod Soles
+pub mod Sides
+pub mod Acts
+pub mod Carrying
+pub mod Opens

@@ -1,0 +1,5 @@
+pub mod Valued
+pub mod Steps
+pub mod Carried
+pub mod Knowing
+pub mod Promised
