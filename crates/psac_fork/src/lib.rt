@@ -1,0 +1,11 @@
+//! The shared tables with their passes, and two jobs that run at once where a permit is free.
+#![tactic(auto)]
+
+pub mod crew;
+pub mod pass;
+
+pub use crew::{Crew, Gate, NoGate, Side, both};
+pub use pass::{Pass, PassSplit, Tables};
+
+#[cfg(test)]
+mod tests;
