@@ -1,7 +1,7 @@
 -- Tokens: the longest that can be read at each place.
-use Rattle.std.specs.Prelude.{◌≡◌, ◌≤◌, ◌<◌, ◌^◌, ℕ, zero, suc, ◌+◌, ◌-◌, Bool, true, false, not, ◌&&◌, ◌||◌, if◌then◌else◌, ◌==◌, nat_le, nat_lt, List, [], ◌∷◌, take, drop, length, slice_index, codes, Option, Some, None}
+use Rattle.std.specs.Prelude.{◌<◌, ◌^◌, ℕ, zero, suc, ◌+◌, Bool, true, false, not, ◌&&◌, ◌||◌, if◌then◌else◌, ◌==◌, nat_le, nat_lt, List, [], ◌∷◌, take, drop, length, slice_index, codes, Option, Some, None}
 use Rattle.std.specs.List.{prefix_len}
-use Rattle.std.specs.Str.{bytes_eq}
+use Rattle.std.specs.Str.{bytes_eq, is_utf8}
 use Rattle.psac_tokens.specs.declared.place.Place.{Place}
 use Rattle.psac_tokens.specs.declared.token.Kind.{Kind}
 use Rattle.psac_tokens.specs.declared.token.Kind.TheVariants.{Int, Name, Text, LeftBrace, RightBrace, LeftParen, RightParen, Semicolon, Comma, Assign, Equal, Unequal, Less, AtMost, Greater, AtLeast, Plus, Minus, Star, Slash, Percent, Unreadable, End}
@@ -76,16 +76,22 @@ mark b next =
     if b == 61 then with_equals next Equal Assign 1 else (if b == 60 then with_equals next AtMost Less 1 else (if b == 62 then with_equals next AtLeast Greater 1
     else (if b == 33 then with_equals next Unequal Unreadable 0 else (single b, if b == 123 || b == 125 || b == 40 || b == 41 || b == 59 || b == 44 || b == 43 || b == 45 || b == 42 || b == 47 || b == 37 then 1 else 0))))
 
-abbrev pub quoted : Option ℕ → Kind × ℕ
-quoted None = (Unreadable, 0)
-quoted (Some len) = (Text, len + 1)
+-- the bytes that a TEXT stands for, from behind its opening quote on
+abbrev pub content : Bool → List ℕ → List ℕ
+content is_escaped [] = []
+content true (b ∷ z) = (if b == 110 then 10 else b) ∷ content false z
+content false (b ∷ z) = if b == 34 then [] else (if b == 92 then content true z else b ∷ content false z)
+
+abbrev pub quoted : List ℕ → Option ℕ → Kind × ℕ
+quoted bytes None = (Unreadable, 0)
+quoted bytes (Some len) = if is_utf8 bytes then (Text, len + 1) else (Unreadable, 0)
 
 -- the kind and the length of the token at the front
 unfoldable pub front : List ℕ → Kind × ℕ
 front [] = (End, 0)
 front (b ∷ z) =
     if is_letter b then (reserved (take (word_len (b ∷ z)) (b ∷ z)), word_len (b ∷ z)) else (if is_digit b then (Int, digits_len (b ∷ z))
-    else (if b == 34 then quoted (closing false 0 z) else mark b (slice_index z 0)))
+    else (if b == 34 then quoted (content false z) (closing false 0 z) else mark b (slice_index z 0)))
 
 -- a token as it is spelled, with its place; the last one is spelled by nothing
 pub record Lexeme : Type 0 where

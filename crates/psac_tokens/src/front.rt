@@ -1,9 +1,11 @@
 //! The token at the front of a text.
 
-ghost use Rattle.std.specs.Prelude.{◌≡◌, ◌⊎◌, ◌+◌, ◌<◌, ◌≤◌, length, map, slice_index, IfSome, true, false};
+ghost use Rattle.std.specs.Prelude.{◌≡◌, ◌⊎◌, ◌+◌, ◌<◌, ◌≤◌, length, map, slice_index, IfOk, true, false};
 ghost use Rattle.psac_tokens.specs.Lex as spec;
 
+use crate::text::{closing, content, is_text};
 use crate::token::{Kind, RESERVED};
+use std::alloc::{AllocError, Global};
 
 fn is_letter(b: u8) -> bool
     ensures { result ≡ spec.is_letter b }
@@ -65,31 +67,20 @@ fn reserved(word: &[u8]) -> Kind
     lookup(&RESERVED, word)
 }
 
-/// The length of a text behind its opening quote, up to and with the closing one.
-fn closing(text: &[u8]) -> Option<usize>
-    ensures value { result ≡ spec.closing false 0 text.now }
-    ensures within { IfSome result (λ n. n ≤ length text.now) }
+/// A text whose content and closing quote are behind the opening one.
+fn quoted(alloc: Global, text: &[u8]) -> Result<(Kind, usize), AllocError>
+    ensures value { IfOk result (λ token. token ≡ spec.quoted (spec.content false text.now) (spec.closing false 0 text.now)) }
+    ensures within { IfOk result (λ token. token.1 ≤ length text.now + 1) }
+    ensures last { IfOk result (λ token. token.1 ≡ 0 → token.0 ≡ Kind.Unreadable) }
 {
-    let mut rest = text;
-    let mut at = 0;
-    let mut is_escaped = false;
-    'bytes: while let [b, more @ ..] = rest {
-        at += 1;
-        if is_escaped {
-            if *b != b'"' && *b != b'\\' && *b != b'n' {
-                return None;
-            }
-            is_escaped = false;
-        } else if *b == b'"' {
-            return Some(at);
-        } else if *b == b'\\' {
-            is_escaped = true;
-        } else if *b < 32 || *b == 127 {
-            return None;
-        }
-        rest = more;
+    let Some(len) = closing(text) else {
+        return Ok((Kind::Unreadable, 0));
+    };
+    if is_text(&content(alloc, text)?) {
+        Ok((Kind::Text, len + 1))
+    } else {
+        Ok((Kind::Unreadable, 0))
     }
-    None
 }
 
 fn mark(b: u8, next: u8) -> (Kind, usize)
@@ -135,31 +126,27 @@ fn mark(b: u8, next: u8) -> (Kind, usize)
 
 /// The kind and the length of the token at the front, where no blank stands. The length is 0 at the end and where no token can be read.
 #[tactic(auto, unfolding(crate::specs::Lex::front))]
-pub fn front(text: &[u8]) -> (Kind, usize)
-    ensures value { result ≡ spec.front text.now }
-    ensures within { result.1 ≤ length text.now }
-    ensures last { result.1 ≡ 0 → (result.0 ≡ Kind.Unreadable) ⊎ (result.0 ≡ Kind.End) }
+pub fn front(alloc: Global, text: &[u8]) -> Result<(Kind, usize), AllocError>
+    ensures value { IfOk result (λ token. token ≡ spec.front text.now) }
+    ensures within { IfOk result (λ token. token.1 ≤ length text.now) }
+    ensures last { IfOk result (λ token. token.1 ≡ 0 → (token.0 ≡ Kind.Unreadable) ⊎ (token.0 ≡ Kind.End)) }
 {
-    match text {
-        [] => (Kind::End, 0),
-        [b, more @ ..] => {
-            if is_letter(*b) {
-                let len = word_len(text);
-                (reserved(&text[..len]), len)
-            } else if is_digit(*b) {
-                (Kind::Int, digits_len(text))
-            } else if *b == b'"' {
-                match closing(more) {
-                    None => (Kind::Unreadable, 0),
-                    Some(len) => (Kind::Text, len + 1),
-                }
-            } else {
-                let next = match more {
-                    [] => 0,
-                    [c, ..] => *c,
-                };
-                mark(*b, next)
-            }
-        }
+    let [b, more @ ..] = text else {
+        return Ok((Kind::End, 0));
+    };
+    if is_letter(*b) {
+        let len = word_len(text);
+        return Ok((reserved(&text[..len]), len));
     }
+    if is_digit(*b) {
+        return Ok((Kind::Int, digits_len(text)));
+    }
+    if *b == b'"' {
+        return quoted(alloc, more);
+    }
+    let next = match more {
+        [] => 0,
+        [c, ..] => *c,
+    };
+    Ok(mark(*b, next))
 }

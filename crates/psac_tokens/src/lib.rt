@@ -1,11 +1,13 @@
 //! Tokens of a program's text, each with its place.
 #![tactic(auto)]
 
+mod distinct;
 mod front;
 mod numbering;
 mod place;
 #[cfg(test)]
 mod tests;
+mod text;
 mod token;
 mod tokens;
 

@@ -92,7 +92,7 @@ pub struct Token {
     pub kind: Kind,
     /// The value of an INT that is within its limit, else 0.
     pub number: i64,
-    /// Which one a NAME is among the names, or a `read` among the reads; else 0.
+    /// Which one a NAME is among the names, a TEXT among the texts, or a `read` among the reads; else 0.
     pub index: u16,
     pub line: u32,
     pub column: u32,

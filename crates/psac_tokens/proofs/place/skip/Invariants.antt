@@ -1,4 +1,4 @@
-use Rattle.std.proofs.Common.{◌≡◌, ◌+◌, ◌≤◌, length, false}
+use Rattle.std.proofs.Common.{◌≡◌, ◌≤◌, length, false}
 use Rattle.psac_tokens.specs.Lex.{skip, FitsPlace}
 use Rattle.psac_tokens.proofs.place.skip.Given as goal
 
