@@ -1,18 +1,89 @@
 -- The machine's moves, as the code meets them.
-use Rattle.std.proofs.Common.{◌≡◌, ◌≢◌, ℕ, zero, suc, ◌+◌, ◌-◌, ◌<◌, ◌≤◌, max, Bool, true, false, cond, not, ltb, List, [], ◌∷◌, ◌++◌, length, Option, Some, None, Result, Ok, Err, refl, sym, ap, subst, ◌∙◌, arith, rules}
-use Rattle.std.proofs.lemmas.Bool.{lt-ltb}
+use Rattle.std.proofs.Common.{◌≡◌, ℕ, ◌<◌, Bool, true, false, cond, not, List, [], ◌∷◌, ◌++◌, length, Some, None, Result, Ok, Err, refl, sym, ap, ◌∙◌, arith, rules}
 use denote.Enum.Bare.{same_true}
 use Rattle.psac_tokens.specs.contracts.token.Kind.{the_type}
 use Rattle.psac_tokens.specs.declared.token.Kind.{Kind}
-use Rattle.psac_tokens.specs.declared.token.Kind.TheVariants as kinds
 use Rattle.psac_tokens.specs.declared.token.Token.{Token}
-use Rattle.psac_grammar.specs.Marked.{by_size, by_names, by_parens, by_bodies, by_statements, max_names, max_parens, max_bodies, max_statements}
-use Rattle.psac_grammar.specs.Grammar.{operator_at, top, most_items}
-use Rattle.psac_grammar.specs.Machine.{Symbol, mark, make, level, tail, opening, a_name, binding, statements, more_items, block, dests, more_dests, same_kind, Item, of_expr, of_name, of_names, of_items, of_stmts, Built, Move, take, pass, refuse, move, expected, opens, Ahead, first, rest, run, run_with, failed, syntax, limit, syntax_at}
-use Rattle.psac_grammar.proofs.Runs.{takes, passes, too_deep, refuses}
+use Rattle.psac_tokens.specs.declared.token.TheConstants.{NOTHING}
+use Rattle.psac_grammar.specs.Marked as marked
+use Rattle.psac_grammar.specs.Marked.{or_else, fine, over, late}
+use Rattle.psac_grammar.specs.Machine.{Symbol, make, one_of, same_kind, Item, Built, take, pass, refuse, move, Behind, behind, settled, exceeds, go, late_of, Ahead, first, rest, all_limits, Answer, last, step, run, run_with}
+use Rattle.psac_grammar.proofs.Runs.{takes, passes, too_deep, refuses, past}
 use Rattle.psac_lang.specs.declared.fault.Halt.{Halt}
 use Rattle.psac_lang.specs.declared.fault.Halt.TheVariants as halt
-use Rattle.psac_lang.specs.Reads.{Goes, Fails, fault_of, syntax_halt, limit_halt}
+use Rattle.psac_lang.specs.declared.marks.Mark.{Mark}
+use Rattle.psac_lang.specs.declared.marks.Mark.TheVariants.{Fine, Over, Late}
+use Rattle.psac_lang.specs.Marks.{mark_of, is_over}
+use Rattle.psac_lang.specs.Reads.{Goes, Fails, syntax_halt, limit_halt, taken}
+
+-- ---- one step, and what goes on or fails then
+
+pub fails_from : (e : Halt) (a b : Answer) → a ≡ b → Fails e b → Fails e a
+fails_from halt.NoMemory a b h f = tt
+fails_from (halt.Syntax line column) a b h f = (f.0, h ∙ f.1)
+fails_from (halt.Limit which line) a b h f = (f.0, h ∙ f.1)
+
+pub goes_from : {X : Type 0} (result : Result X Halt) (before middle after : Ahead) (s t : List Symbol) (vs ws : List Item) (s' : X → List Symbol) (vs' : X → List Item) → run before s vs ≡ run middle t ws → Goes result middle after t ws s' vs' → Goes result before after s vs s' vs'
+goes_from (Ok v) before middle after s t vs ws s' vs' h f = h ∙ f
+goes_from (Err e) before middle after s t vs ws s' vs' h f = fails_from e (run before s vs) (run middle t ws) h f
+
+pub passed_at : (c : Ahead) (x : Symbol) (s : List Symbol) (vs : List Item) (f : List Item → Built) → move x (first c) ≡ pass f → (f vs).0 ≡ true → run c (x ∷ s) vs ≡ run c s (f vs).1
+passed_at c x s vs f h ok = passes all_limits c.1 c.0 x s vs f h (rw ok refl)
+
+pub makes : (c : Ahead) (s : List Symbol) (vs : List Item) (f : List Item → Built) → (f vs).0 ≡ true → run c (make f ∷ s) vs ≡ run c s (f vs).1
+unfolding move
+makes c s vs f ok = passed_at c (make f) s vs f refl ok
+
+pub deep_at : (c : Ahead) (s : List Symbol) (vs : List Item) (f : List Item → Built) (e : Halt) → (f vs).0 ≡ false → e ≡ limit_halt 5 c.0.line → Fails e (run c (make f ∷ s) vs)
+unfolding move
+deep_at c s vs f e deep fault = rw fault (c.1, too_deep all_limits c.1 c.0 (make f) s vs f refl deep refl)
+
+-- ---- a token is taken
+
+ended_at : (l : Behind) (x : Symbol) (s : List Symbol) (vs : List Item) (m : marked.Mark) (more : List Symbol) (new : List Item) → move x NOTHING ≡ take m more new
+    → run (l, []) (x ∷ s) vs ≡ last (settled true l.late l.line (exceeds true m NOTHING (go (behind NOTHING m) (more ++ s) (new ++ vs))))
+unfolding run_with step
+ended_at l x s vs m more new is = rw is refl
+
+module _ (x : Symbol) (s : List Symbol) (vs : List Item) (more : List Symbol) (new : List Item) where
+  pub takes_late : (c : Ahead) (m : marked.Mark) (w : ℕ) (e : Halt) → c.0.late ≡ Some w → e ≡ limit_halt w c.0.line → move x (first c) ≡ take m more new → Fails e (run c (x ∷ s) vs)
+  takes_late (l, []) m w e known fault is = rw fault ([], ended_at l x s vs m more new is ∙ rw known refl)
+  takes_late (l, (t ∷ ts)) m w e known fault is = rw fault ((t ∷ ts), takes all_limits t ts l x s vs m more new is ∙ rw known refl)
+
+  pub takes_over : (c : Ahead) (w : ℕ) (e : Halt) → c.0.late ≡ None → e ≡ limit_halt w (first c).line → move x (first c) ≡ take (over w) more new → Fails e (run c (x ∷ s) vs)
+  takes_over (l, []) w e known fault is = rw fault ([], ended_at l x s vs (over w) more new is ∙ rw known refl)
+  takes_over (l, (t ∷ ts)) w e known fault is = rw fault ((t ∷ ts), takes all_limits t ts l x s vs (over w) more new is ∙ rw known refl)
+
+  pub takes_end : (c : Ahead) (m : Mark) (e : Halt) → c.0.late ≡ None → is_over m ≡ false → c.1 ≡ [] → e ≡ syntax_halt NOTHING → move x (first c) ≡ take (mark_of m) more new → Fails e (run c (x ∷ s) vs)
+  takes_end (l, []) (Over w) e known fits empty fault is = absurd cc
+  takes_end (l, []) Fine e known fits empty fault is = rw fault ([], ended_at l x s vs fine more new is ∙ rw known refl)
+  takes_end (l, []) (Late w) e known fits empty fault is = rw fault ([], ended_at l x s vs (marked.late w) more new is ∙ rw known refl)
+  takes_end (l, (t ∷ ts)) m e known fits empty fault is = absurd cc
+
+  pub takes_on : (c : Ahead) (m : Mark) (after : Ahead) → c.0.late ≡ None → is_over m ≡ false → after ≡ rest (mark_of m) c → length after.1 < length c.1 → move x (first c) ≡ take (mark_of m) more new
+      → run c (x ∷ s) vs ≡ run after (more ++ s) (new ++ vs)
+  takes_on (l, []) m after known fits gone less is = absurd (omega arith)
+  takes_on (l, (t ∷ ts)) (Over w) after known fits gone less is = absurd cc
+  takes_on (l, (t ∷ ts)) Fine after known fits gone less is = rw gone (takes all_limits t ts l x s vs fine more new is ∙ rw known refl)
+  takes_on (l, (t ∷ ts)) (Late w) after known fits gone less is = rw gone (takes all_limits t ts l x s vs (marked.late w) more new is ∙ rw known refl)
+
+module _ (x : Symbol) (s : List Symbol) (vs : List Item) (c : Ahead) (is : move x (first c) ≡ refuse) where
+  pub refuses_late : (w : ℕ) (e : Halt) → c.0.late ≡ Some w → e ≡ limit_halt w c.0.line → Fails e (run c (x ∷ s) vs)
+  refuses_late w e known fault = rw fault (c.1, refuses all_limits c.1 c.0 x s vs is ∙ rw known refl)
+
+  pub refuses_now : (e : Halt) → c.0.late ≡ None → e ≡ syntax_halt (first c) → Fails e (run c (x ∷ s) vs)
+  refuses_now e known fault = rw fault (c.1, refuses all_limits c.1 c.0 x s vs is ∙ rw known refl)
+
+pub settles : (c after : Ahead) (m : marked.Mark) → after ≡ rest m c → length after.1 < length c.1 → after.0.late ≡ late_of m
+settles (l, []) after m gone less = absurd (omega arith)
+settles (l, (t ∷ ts)) after m gone less = rw gone refl
+
+pub not_over : (m : Mark) → ((w : ℕ) → m ≡ Over w → ⊥) → is_over m ≡ false
+not_over Fine h = refl
+not_over (Late w) h = refl
+not_over (Over w) h = absurd (h w refl)
+
+-- ---- tokens of one kind
 
 pub not_true : (b : Bool) → true ≡ not b → b ≡ false
 not_true true h = absurd cc
@@ -22,127 +93,32 @@ pub not_false : (b : Bool) → false ≡ not b → b ≡ true
 not_false true h = refl
 not_false false h = absurd cc
 
-pub is_kind : (k : Kind) (t : Token) → false ≡ not (same_kind t.kind k) → t.kind ≡ k
-is_kind k t h = same_true the_type (search rules) _ _ (not_false _ h)
+module _ (t u : Token) (kind : Kind) (m : marked.Mark) (more : List Symbol) (new : List Item) (same : t ≡ u) where
+  pub taken_other : true ≡ not (same_kind t.kind kind) → taken u.kind kind m more new ≡ refuse
+  taken_other h = rw (← same) (ap (λ b. cond b (take m more new) refuse) (not_true _ h))
 
--- nothing of this kind stands behind the last token
-none_left : (k : Kind) (t : Token) → t ≡ first (0, []) → t.kind ≡ k → same_kind kinds.Unreadable k ≡ false → ⊥
-none_left k t is kind known =
-    let e : kinds.Unreadable ≡ k = ap (λ x. x.kind) (sym is) ∙ kind in
-    let f : same_kind kinds.Unreadable kinds.Unreadable ≡ false = subst (λ x. same_kind kinds.Unreadable x ≡ false) (sym e) known in
-    let g : true ≡ false = f in
-    cc
+  pub taken_same : false ≡ not (same_kind t.kind kind) → taken u.kind kind m more new ≡ take m more new
+  taken_same h = rw (← same) (ap (λ b. cond b (take m more new) refuse) (not_false _ h))
 
-pub took : (c new : Ahead) (t : Token) (k : Kind) (x : Symbol) (s more : List Symbol) (vs ws : List Item) → t ≡ first c → t.kind ≡ k → same_kind kinds.Unreadable k ≡ false → new ≡ rest c → move x t ≡ take None more ws
-    → run c (x ∷ s) vs ≡ run new (more ++ s) (ws ++ vs)
-took (l, []) new t k x s more vs ws is kind known past h = absurd (none_left k t is kind known)
-took (l, (u ∷ ts)) new t k x s more vs ws is kind known past h = rw past (takes true u ts l x s vs None more ws (rw (← is) h))
+pub kind_is : (k j : Kind) → same_kind j k ≡ true → j ≡ k
+kind_is k j h = same_true the_type (search rules) _ _ h
 
-pub over_at : (c : Ahead) (t : Token) (k : Kind) (x : Symbol) (s more : List Symbol) (vs ws : List Item) (which : ℕ) (e : Halt) → t ≡ first c → t.kind ≡ k → same_kind kinds.Unreadable k ≡ false → move x t ≡ take (Some which) more ws → e ≡ limit_halt which t.line
-    → Fails c (x ∷ s) vs e c
-over_at (l, []) t k x s more vs ws which e is kind known h fault = absurd (none_left k t is kind known)
-over_at (l, (u ∷ ts)) t k x s more vs ws which e is kind known h fault = rw (fault, is) (takes true u ts l x s vs (Some which) more ws (rw (← is) h))
-
-pub refused_at : (c : Ahead) (t : Token) (x : Symbol) (s : List Symbol) (vs : List Item) (e : Halt) → t ≡ first c → move x t ≡ refuse → e ≡ syntax_halt t → Fails c (x ∷ s) vs e c
-refused_at c t x s vs e is h fault = rw (fault, is) (refuses true c.1 c.0 x s vs (rw (← is) h))
-
-pub passed_at : (c : Ahead) (x : Symbol) (s : List Symbol) (vs : List Item) (f : List Item → Built) → move x (first c) ≡ pass f → (f vs).0 ≡ true → run c (x ∷ s) vs ≡ run c s (f vs).1
-passed_at c x s vs f h ok = passes true c.1 c.0 x s vs f h (rw ok refl)
-
-pub makes : (c : Ahead) (s : List Symbol) (vs : List Item) (f : List Item → Built) → (f vs).0 ≡ true → run c (make f ∷ s) vs ≡ run c s (f vs).1
+pub one_of_moves : (kind : Kind) (by : Token → marked.Mark) (new : Token → List Item) (t : Token) → move (one_of kind by new) t ≡ taken t.kind kind (by t) [] (new t)
 unfolding move
-makes c s vs f ok = passed_at c (make f) s vs f refl ok
+one_of_moves kind by new t = refl
 
-pub deep_at : (c : Ahead) (s : List Symbol) (vs : List Item) (f : List Item → Built) (e : Halt) → (f vs).0 ≡ false → e ≡ limit_halt 5 c.0 → Fails c (make f ∷ s) vs e c
-unfolding move
-deep_at c s vs f e deep fault = rw fault (too_deep c.1 c.0 (make f) s vs f refl deep)
+pub or_else-fine : (m : marked.Mark) → or_else m fine ≡ m
+or_else-fine fine = refl
+or_else-fine (over w) = refl
+or_else-fine (late w) = refl
 
--- one step, and what fails then
-pub fails_from : (e : Halt) (before middle after : Ahead) (s t : List Symbol) (vs ws : List Item) → run before s vs ≡ run middle t ws → Fails middle t ws e after → Fails before s vs e after
-fails_from halt.NoMemory before middle after s t vs ws h f = tt
-fails_from (halt.Fault x) before middle after s t vs ws h f = h ∙ f
+-- ---- two symbols that do the same at the next token
 
--- ---- a token of one kind
+pub both_take : (c : Ahead) (x y : Symbol) (s t : List Symbol) (vs : List Item) (m : marked.Mark) (more other : List Symbol) (new : List Item) → move x (first c) ≡ take m more new → move y (first c) ≡ take m other new → more ++ s ≡ other ++ t
+    → run c (x ∷ s) vs ≡ run c (y ∷ t) vs
+both_take (l, []) x y s t vs m more other new h j same = ended_at l x s vs m more new h ∙ ap (λ z. last (settled true l.late l.line (exceeds true m NOTHING (go (behind NOTHING m) z (new ++ vs))))) same ∙ sym (ended_at l y t vs m other new j)
+both_take (l, (u ∷ ts)) x y s t vs m more other new h j same =
+    takes all_limits u ts l x s vs m more new h ∙ ap (λ z. past all_limits l u m ts (run_with all_limits ts (behind u m) z (new ++ vs))) same ∙ sym (takes all_limits u ts l y t vs m other new j)
 
-module _ (c : Ahead) (t : Token) (kind : Kind) (which : Option ℕ) (new : List Item) (x : Symbol) (s : List Symbol) (vs : List Item) (moves : move x t ≡ expected kind t which new) (is : t ≡ first c) where
-  pub expected_fails : (e : Halt) → true ≡ not (same_kind t.kind kind) → e ≡ syntax_halt t → Fails c (x ∷ s) vs e c
-  expected_fails e other fault = refused_at c t x s vs e is (moves ∙ ap (λ b. cond b (take which [] new) refuse) (not_true _ other)) fault
-
-  pub expected_over : (w : ℕ) (e : Halt) → false ≡ not (same_kind t.kind kind) → same_kind kinds.Unreadable kind ≡ false → which ≡ Some w → e ≡ limit_halt w t.line → Fails c (x ∷ s) vs e c
-  expected_over w e same known exceeds fault =
-      over_at c t kind x s [] vs new w e is (is_kind kind t same) known (moves ∙ ap (λ b. cond b (take which [] new) refuse) (not_false _ same) ∙ ap (λ o. take o [] new) exceeds) fault
-
-  pub expected_goes : (after : Ahead) → false ≡ not (same_kind t.kind kind) → same_kind kinds.Unreadable kind ≡ false → which ≡ None → after ≡ rest c → run c (x ∷ s) vs ≡ run after s (new ++ vs)
-  expected_goes after same known within past =
-      took c after t kind x s [] vs new is (is_kind kind t same) known past (moves ∙ ap (λ b. cond b (take which [] new) refuse) (not_false _ same) ∙ ap (λ o. take o [] new) within)
-
-pub mark_is : (kind : Kind) (t : Token) → move (mark kind) t ≡ expected kind t None []
-unfolding move
-mark_is kind t = refl
-
-pub opening_is : (p : ℕ) (t : Token) → move (opening p) t ≡ expected kinds.LeftParen t (by_parens p) []
-unfolding move
-opening_is p t = refl
-
-pub a_name_is : (t : Token) → move a_name t ≡ expected kinds.Name t (by_size t) (of_name t.index ∷ [])
-unfolding move
-a_name_is t = refl
-
-pub binding_is : (n : ℕ) (t : Token) → move (binding n) t ≡ expected kinds.Name t (by_names n t) (of_name t.index ∷ [])
-unfolding move
-binding_is n t = refl
-
-pub parens_full : (p : ℕ) → p ≡ 64 → by_parens p ≡ Some 5
-parens_full p h = rw h refl
-
-pub parens_room : (p : ℕ) → p < 64 → by_parens p ≡ None
-parens_room p h = rw (lt-ltb p 64 h) refl
-
-pub bodies_full : (b : ℕ) → b ≡ 32 → by_bodies b ≡ Some 4
-bodies_full b h = rw h refl
-
-pub bodies_room : (b : ℕ) → b < 32 → by_bodies b ≡ None
-bodies_room b h = rw (lt-ltb b 32 h) refl
-
-pub size_over : (t : Token) → t.kind ≡ kinds.Name → t.over ≡ true → by_size t ≡ Some 6
-size_over t k h = rw (k, h) refl
-
-pub size_within : (t : Token) → t.over ≡ false → by_size t ≡ None
-size_within t h = rw h refl
-
-pub int_over : (t : Token) → t.kind ≡ kinds.Int → t.over ≡ true → by_size t ≡ Some 7
-int_over t k h = rw (k, h) refl
-
-pub names_over : (n : ℕ) (t : Token) → t.kind ≡ kinds.Name → t.over ≡ true → by_names n t ≡ Some 6
-names_over n t k h = rw (k, h) refl
-
-pub names_full : (n : ℕ) (t : Token) → t.over ≡ false → n ≡ 24 → by_names n t ≡ Some 8
-names_full n t h j = rw (h, j) refl
-
-pub names_room : (n : ℕ) (t : Token) → t.over ≡ false → n < 24 → by_names n t ≡ None
-names_room n t h j = rw (h, lt-ltb n 24 j) refl
-
--- ---- a body's brace
-
-block_at : (b n : ℕ) (t : Token) (same : Bool) → same_kind t.kind kinds.LeftBrace ≡ same → move (block b n) t ≡ cond same (opens b n) refuse
-unfolding move
-block_at b n t same h = rw h refl
-
-pub brace_fails : (c : Ahead) (b n : ℕ) (t : Token) (s : List Symbol) (vs : List Item) (e : Halt) → t ≡ first c → true ≡ not (same_kind t.kind kinds.LeftBrace) → e ≡ syntax_halt t → Fails c (block b n ∷ s) vs e c
-brace_fails c b n t s vs e is other fault = refused_at c t (block b n) s vs e is (block_at b n t false (not_true _ other)) fault
-
-pub brace_full : (c : Ahead) (b n : ℕ) (t : Token) (s : List Symbol) (vs : List Item) (e : Halt) → t ≡ first c → false ≡ not (same_kind t.kind kinds.LeftBrace) → b ≡ 32 → e ≡ limit_halt 4 t.line → Fails c (block b n ∷ s) vs e c
-brace_full c b n t s vs e is same full fault =
-    over_at c t kinds.LeftBrace (block b n) s (statements (b + 1) n 0 ∷ mark kinds.RightBrace ∷ []) vs (of_stmts [] ∷ []) 4 e is (is_kind kinds.LeftBrace t same) refl
-    (block_at b n t true (not_false _ same) ∙ ap (λ o. take o (statements (b + 1) n 0 ∷ mark kinds.RightBrace ∷ []) (of_stmts [] ∷ [])) (bodies_full b full)) fault
-
-pub brace_goes : (c after : Ahead) (b n : ℕ) (t : Token) (s : List Symbol) (vs : List Item) → t ≡ first c → false ≡ not (same_kind t.kind kinds.LeftBrace) → b < 32 → after ≡ rest c
-    → run c (block b n ∷ s) vs ≡ run after (statements (b + 1) n 0 ∷ mark kinds.RightBrace ∷ s) (of_stmts [] ∷ vs)
-brace_goes c after b n t s vs is same room past =
-    took c after t kinds.LeftBrace (block b n) s (statements (b + 1) n 0 ∷ mark kinds.RightBrace ∷ []) vs (of_stmts [] ∷ []) is (is_kind kinds.LeftBrace t same) refl past
-    (block_at b n t true (not_false _ same) ∙ ap (λ o. take o (statements (b + 1) n 0 ∷ mark kinds.RightBrace ∷ []) (of_stmts [] ∷ [])) (bodies_room b room))
-
--- one step, and what goes on or fails then
-pub goes_from : {X : Type 0} (result : Result X Halt) (before middle after : Ahead) (s t : List Symbol) (vs ws : List Item) (s' : X → List Symbol) (vs' : X → List Item) → run before s vs ≡ run middle t ws → Goes result middle after t ws s' vs' → Goes result before after s vs s' vs'
-goes_from (Ok v) before middle after s t vs ws s' vs' h f = h ∙ f
-goes_from (Err e) before middle after s t vs ws s' vs' h f = fails_from e before middle after s t vs ws h f
+pub both_refuse : (c : Ahead) (x y : Symbol) (s t : List Symbol) (vs : List Item) → move x (first c) ≡ refuse → move y (first c) ≡ refuse → run c (x ∷ s) vs ≡ run c (y ∷ t) vs
+both_refuse c x y s t vs h j = refuses all_limits c.1 c.0 x s vs h ∙ sym (refuses all_limits c.1 c.0 y t vs j)

@@ -1,184 +1,222 @@
 // Expressions.
-ghost use Rattle.std.specs.Prelude.{◌≡◌, ◌+◌, ◌<◌, ◌≤◌, max, length, Some, None, OnOk, IfOk, IfSome, OnSome, IfNone};
+ghost use Rattle.std.specs.Prelude.{◌≡◌, ℕ, ◌<◌, ◌≤◌, ◌∷◌, [], length, OnOk, IfOk, OnSome};
 ghost use Rattle.psac_grammar.specs.Marked.{max_parens, max_depth};
-ghost use Rattle.psac_grammar.specs.Grammar.{operator_at, top};
-ghost use Rattle.psac_grammar.specs.Machine.{level, joined, celled, first, rest};
-ghost use Rattle.psac_lang.specs.Reads.{Reads, Joins, DepthGives, operand_item};
+ghost use Rattle.psac_grammar.specs.Grammar.{start_of, top};
+ghost use Rattle.psac_grammar.specs.Machine.{level, tail as one_tail, tails as all_tails, first};
+ghost use Rattle.psac_lang.specs.Reads.{Reads, ReadsOperand, ReadsTails, ReadsValue, TakesOperator, begins, operand_item};
 
-use crate::cursor::Cursor;
+use crate::cursor::{Cursor, syntax};
 use crate::fault::Halt;
-use crate::reading::{expect, limit, open_paren, syntax};
+use crate::marks::{Mark, by_parens, by_size};
+use crate::operand::{Operand, Pairing, applied, joined};
+use crate::reading::{expect, open_paren, pass};
+use crate::start::{Start, TOP, beginning, is_chain, operator};
 use psac_ops::Op;
 use psac_syntax::Expr;
-use psac_tokens::{Kind, Token};
-use sqlite_items::{Boxed, Items};
+use psac_tokens::Kind;
 use std::alloc::Global;
 
-/// The loosest level of operators.
-pub const TOP: u8 = 2;
-
-const MAX_DEPTH: u8 = 64;
-
-/// An expression and its depth.
-#[derive(Drop)]
-pub struct Operand {
-    pub expr: Expr,
-    pub depth: u8,
+/// An operand of one token.
+fn constant(tokens: &mut Cursor<'_>, expr: Expr, beyond: Mark) -> Result<Operand, Halt>
+    requires { start_of (first tokens.old).kind (first tokens.old) ≡ begins (Start.Constant expr) }
+    ensures reads { (p : ℕ) → ReadsOperand p beyond result tokens.old tokens.new }
+    ensures shorter { OnOk result (length tokens.new.1 < length tokens.old.1) }
+    ensures within { IfOk result (λ o. o.depth ≤ max_depth) }
+{
+    let mark = by_size(tokens.peek(), beyond);
+    pass(tokens, mark)?;
+    Ok(Operand { expr, depth: 1 })
 }
 
-#[tactic(auto, unfolding(psac_grammar::specs::Grammar::operator_at))]
-fn operator(level: u8, kind: Kind) -> Option<Op>
-    ensures { result ≡ operator_at level kind }
+/// `rows`, alone or with parentheses.
+fn rows(tokens: &mut Cursor<'_>, parens: u8, beyond: Mark) -> Result<Operand, Halt>
+    requires starts { start_of (first tokens.old).kind (first tokens.old) ≡ begins Start.Rows }
+    requires parens { parens ≤ max_parens }
+    ensures reads { ReadsOperand parens beyond result tokens.old tokens.new }
+    ensures shorter { OnOk result (length tokens.new.1 < length tokens.old.1) }
+    ensures within { IfOk result (λ o. o.depth ≤ max_depth) }
 {
-    match level {
-        1 => match kind {
-            Kind::Star => Some(Op::Mul),
-            _ => None,
-        },
-        2 => match kind {
-            Kind::Plus => Some(Op::Add),
-            Kind::Minus => Some(Op::Sub),
-            _ => None,
-        },
-        _ => None,
+    pass(tokens, beyond)?;
+    if tokens.peek().kind != Kind::LeftParen {
+        return Ok(Operand {
+            expr: Expr::Rows,
+            depth: 1,
+        });
     }
-}
-
-fn int(token: Token) -> Operand
-    ensures expr { result.expr ≡ Expr.Int token.number }
-    ensures depth { result.depth ≡ 1 }
-{
-    Operand {
-        expr: Expr::Int(token.number),
+    pass(tokens, by_parens(parens, Mark::Fine))?;
+    expect(tokens, Kind::RightParen)?;
+    Ok(Operand {
+        expr: Expr::RowCount,
         depth: 1,
-    }
-}
-
-/// The depth above two operands, the last token of which stands in this line.
-fn depth_above(left: u8, right: u8, line: u32) -> Result<u8, Halt>
-    requires left { left ≤ max_depth }
-    requires right { right ≤ max_depth }
-    ensures { DepthGives (max left right + 1) line result }
-{
-    let depth = left.max(right) + 1;
-    if depth > MAX_DEPTH {
-        return Err(limit(5, line));
-    }
-    Ok(depth)
-}
-
-fn infix(
-    alloc: Global,
-    op: Op,
-    left: Operand,
-    right: Operand,
-    tokens: &Cursor<'_>,
-) -> Result<Operand, Halt>
-    requires left { left.depth ≤ max_depth }
-    requires right { right.depth ≤ max_depth }
-    ensures joins { Joins (joined op) left right result tokens.now }
-    ensures within { IfOk result (λ o. o.depth ≤ max_depth) }
-{
-    let depth = depth_above(left.depth, right.depth, tokens.line())?;
-    let mut operands = Items::new(alloc);
-    operands.push(left.expr)?;
-    operands.push(right.expr)?;
-    Ok(Operand {
-        expr: Expr::Apply(op, operands),
-        depth,
     })
 }
 
-fn cell(alloc: Global, row: Operand, column: Operand, tokens: &Cursor<'_>) -> Result<Operand, Halt>
-    requires row { row.depth ≤ max_depth }
-    requires column { column.depth ≤ max_depth }
-    ensures joins { Joins celled row column result tokens.now }
-    ensures within { IfOk result (λ o. o.depth ≤ max_depth) }
-{
-    let depth = depth_above(row.depth, column.depth, tokens.line())?;
-    let row = Boxed::new(alloc, row.expr)?;
-    let column = Boxed::new(alloc, column.expr)?;
-    Ok(Operand {
-        expr: Expr::Cell(row, column),
-        depth,
-    })
-}
-
-/// Goes past an operator of the level, if one is next.
-fn take_operator(tokens: &mut Cursor<'_>, level: u8) -> Option<Op>
-    ensures none { IfNone result (operator_at level (first tokens.old).kind ≡ None) }
-    ensures same { IfNone result (tokens.new ≡ tokens.old) }
-    ensures some { IfSome result (λ op. operator_at level (first tokens.old).kind ≡ Some op) }
-    ensures past { OnSome result (tokens.new ≡ rest tokens.old) }
-    ensures shorter { OnSome result (length tokens.new.1 < length tokens.old.1) }
-{
-    let found = operator(level, tokens.peek().kind)?;
-    tokens.skip();
-    Some(found)
-}
-
-/// An operand.
+/// An expression in parentheses.
 #[cycle(expr)]
-fn fact(alloc: Global, tokens: &mut Cursor<'_>, parens: u8) -> Result<Operand, Halt>
+fn inner(alloc: Global, tokens: &mut Cursor<'_>, parens: u8, beyond: Mark) -> Result<Operand, Halt>
+    requires starts { start_of (first tokens.old).kind (first tokens.old) ≡ begins Start.Inner }
+    requires parens { parens ≤ max_parens }
+    ensures reads { ReadsOperand parens beyond result tokens.old tokens.new }
+    ensures shorter { OnOk result (length tokens.new.1 < length tokens.old.1) }
+    ensures within { IfOk result (λ o. o.depth ≤ max_depth) }
+{
+    pass(tokens, by_parens(parens, beyond))?;
+    let inside = expr(alloc, tokens, TOP, parens + 1)?;
+    expect(tokens, Kind::RightParen)?;
+    Ok(inside)
+}
+
+/// An operator with one argument.
+#[cycle(expr)]
+fn one(
+    alloc: Global,
+    tokens: &mut Cursor<'_>,
+    op: Op,
+    parens: u8,
+    beyond: Mark,
+) -> Result<Operand, Halt>
+    requires starts { start_of (first tokens.old).kind (first tokens.old) ≡ begins (Start.One op) }
+    requires parens { parens ≤ max_parens }
+    ensures reads { ReadsOperand parens beyond result tokens.old tokens.new }
+    ensures shorter { OnOk result (length tokens.new.1 < length tokens.old.1) }
+    ensures within { IfOk result (λ o. o.depth ≤ max_depth) }
+{
+    pass(tokens, beyond)?;
+    open_paren(tokens, parens)?;
+    let argument = expr(alloc, tokens, TOP, parens + 1)?;
+    expect(tokens, Kind::RightParen)?;
+    Ok(applied(alloc, op, argument, tokens)?)
+}
+
+/// `cell`, or an operator with two arguments in parentheses.
+#[cycle(expr)]
+fn two(
+    alloc: Global,
+    tokens: &mut Cursor<'_>,
+    pair: Pairing,
+    parens: u8,
+    beyond: Mark,
+) -> Result<Operand, Halt>
+    requires starts { start_of (first tokens.old).kind (first tokens.old) ≡ begins (Start.Two pair) }
+    requires parens { parens ≤ max_parens }
+    ensures reads { ReadsOperand parens beyond result tokens.old tokens.new }
+    ensures shorter { OnOk result (length tokens.new.1 < length tokens.old.1) }
+    ensures within { IfOk result (λ o. o.depth ≤ max_depth) }
+{
+    pass(tokens, beyond)?;
+    open_paren(tokens, parens)?;
+    let first = expr(alloc, tokens, TOP, parens + 1)?;
+    expect(tokens, Kind::Comma)?;
+    let second = expr(alloc, tokens, TOP, parens + 1)?;
+    expect(tokens, Kind::RightParen)?;
+    Ok(joined(alloc, pair, first, second, tokens)?)
+}
+
+/// An operand inside this many parentheses. Its first token exceeds a limit that `beyond` says.
+#[cycle(expr)]
+fn fact(alloc: Global, tokens: &mut Cursor<'_>, parens: u8, beyond: Mark) -> Result<Operand, Halt>
     requires { parens ≤ max_parens }
-    ensures reads { Reads operand_item (level 0 parens) result tokens.old tokens.new }
-    ensures shorter { OnOk result (length tokens.new.1 ≤ length tokens.old.1) }
+    ensures reads { ReadsOperand parens beyond result tokens.old tokens.new }
+    ensures shorter { OnOk result (length tokens.new.1 < length tokens.old.1) }
     ensures within { IfOk result (λ o. o.depth ≤ max_depth) }
 {
     let token = tokens.peek();
-    match token.kind {
-        Kind::Int => {
-            if token.over {
-                return Err(limit(7, token.line));
-            }
-            tokens.skip();
-            Ok(int(token))
+    match beginning(token) {
+        Start::Constant(expr) => constant(tokens, expr, beyond),
+        Start::Rows => rows(tokens, parens, beyond),
+        Start::Inner => inner(alloc, tokens, parens, beyond),
+        Start::One(op) => one(alloc, tokens, op, parens, beyond),
+        Start::Two(pair) => two(alloc, tokens, pair, parens, beyond),
+        Start::Nothing => {
+            tokens.settle()?;
+            Err(syntax(token))
         }
-        Kind::Name => {
-            if token.over {
-                return Err(limit(6, token.line));
-            }
-            tokens.skip();
-            Ok(Operand {
-                expr: Expr::Name(token.index),
-                depth: 1,
-            })
-        }
-        Kind::LeftParen => {
-            open_paren(tokens, parens)?;
-            let inner = expr(alloc, tokens, TOP, parens + 1)?;
-            expect(tokens, Kind::RightParen)?;
-            Ok(inner)
-        }
-        Kind::Cell => {
-            tokens.skip();
-            open_paren(tokens, parens)?;
-            let row = expr(alloc, tokens, TOP, parens + 1)?;
-            expect(tokens, Kind::Comma)?;
-            let column = expr(alloc, tokens, TOP, parens + 1)?;
-            expect(tokens, Kind::RightParen)?;
-            cell(alloc, row, column, tokens)
-        }
-        _ => Err(syntax(token)),
     }
+}
+
+/// Goes past an operator of the level, if one is next.
+fn take_operator(tokens: &mut Cursor<'_>, level: u8) -> Result<Option<Op>, Halt>
+    ensures takes { TakesOperator level result tokens.old tokens.new }
+    ensures shorter { IfOk result (λ found. OnSome found (length tokens.new.1 < length tokens.old.1)) }
+    ensures some { IfOk result (λ found. OnSome found (0 < level)) }
+    ensures keeps { OnOk result (length tokens.new.1 ≤ length tokens.old.1) }
+{
+    let Some(op) = operator(level, tokens.peek().kind) else {
+        return Ok(None);
+    };
+    pass(tokens, Mark::Fine)?;
+    Ok(Some(op))
+}
+
+/// Operators of one level behind an operand.
+#[cycle(expr)]
+fn tail(
+    alloc: Global,
+    tokens: &mut Cursor<'_>,
+    left: Operand,
+    level: u8,
+    parens: u8,
+) -> Result<Operand, Halt>
+    requires level { level ≤ top }
+    requires parens { parens ≤ max_parens }
+    requires within { left.depth ≤ max_depth }
+    ensures reads { ReadsTails left (one_tail level parens ∷ []) result tokens.old tokens.new }
+    ensures shorter { OnOk result (length tokens.new.1 ≤ length tokens.old.1) }
+    ensures within { IfOk result (λ o. o.depth ≤ max_depth) }
+{
+    let mut all = left;
+    'more: while let Some(op) = take_operator(tokens, level)? {
+        let right = expr(alloc, tokens, level - 1, parens)?;
+        all = joined(alloc, Pairing::Apply(op), all, right, tokens)?;
+        if !is_chain(level) {
+            return Ok(all);
+        }
+    }
+    Ok(all)
+}
+
+/// Operators of all levels up to one behind an operand.
+#[cycle(expr)]
+fn tails(
+    alloc: Global,
+    tokens: &mut Cursor<'_>,
+    left: Operand,
+    upto: u8,
+    parens: u8,
+) -> Result<Operand, Halt>
+    requires level { upto ≤ top }
+    requires parens { parens ≤ max_parens }
+    requires within { left.depth ≤ max_depth }
+    ensures reads { ReadsTails left (all_tails upto parens) result tokens.old tokens.new }
+    ensures shorter { OnOk result (length tokens.new.1 ≤ length tokens.old.1) }
+    ensures within { IfOk result (λ o. o.depth ≤ max_depth) }
+{
+    if upto == 0 {
+        return Ok(left);
+    }
+    let inside = tails(alloc, tokens, left, upto - 1, parens)?;
+    Ok(tail(alloc, tokens, inside, upto, parens)?)
 }
 
 /// Operands with operators up to a level between them.
 #[cycle(expr)]
 pub fn expr(alloc: Global, tokens: &mut Cursor<'_>, upto: u8, parens: u8) -> Result<Operand, Halt>
-    requires levels { upto ≤ top }
-    requires room { parens ≤ max_parens }
+    requires level { upto ≤ top }
+    requires parens { parens ≤ max_parens }
     ensures reads { Reads operand_item (level upto parens) result tokens.old tokens.new }
-    ensures shorter { OnOk result (length tokens.new.1 ≤ length tokens.old.1) }
+    ensures shorter { OnOk result (length tokens.new.1 < length tokens.old.1) }
     ensures within { IfOk result (λ o. o.depth ≤ max_depth) }
 {
-    if upto == 0 {
-        return fact(alloc, tokens, parens);
-    }
-    let mut left = expr(alloc, tokens, upto - 1, parens)?;
-    'more: while let Some(op) = take_operator(tokens, upto) {
-        let right = expr(alloc, tokens, upto - 1, parens)?;
-        left = infix(alloc, op, left, right, tokens)?;
-    }
-    Ok(left)
+    let operand = fact(alloc, tokens, parens, Mark::Fine)?;
+    Ok(tails(alloc, tokens, operand, upto, parens)?)
+}
+
+/// A value of a call. Its first token exceeds a limit that `beyond` says.
+pub fn value(alloc: Global, tokens: &mut Cursor<'_>, beyond: Mark) -> Result<Expr, Halt>
+    ensures reads { ReadsValue beyond result tokens.old tokens.new }
+    ensures shorter { OnOk result (length tokens.new.1 < length tokens.old.1) }
+{
+    let operand = fact(alloc, tokens, 0, beyond)?;
+    let whole = tails(alloc, tokens, operand, TOP, 0)?;
+    Ok(whole.expr)
 }

@@ -8,8 +8,11 @@ use std::alloc::{AllocError, AllocFailed};
 /// Why there is no program.
 #[derive(Clone, Copy, Debug, PartialEq, Eq)]
 pub enum ParseFault {
-    /// The bytes are no text of the grammar within the limits.
-    Refused,
+    /// No text of the grammar begins with the tokens up to the one at this place, or none can be read there.
+    /// Lines and columns count from 1, columns in bytes.
+    Syntax { line: u32, column: u32 },
+    /// A text of the grammar exceeds this limit, first at a token in this line.
+    Limit { which: u8, line: u32 },
     NoMemory,
 }
 
@@ -21,17 +24,11 @@ impl From<AllocError> for ParseFault {
     }
 }
 
-/// The first fault in text order.
-#[derive(Clone, Copy, Debug, PartialEq, Eq)]
-pub enum Fault {
-    Syntax { line: u32, column: u32 },
-    Limit { which: u8, line: u32 },
-}
-
-/// Why the parser stops.
+/// Why the parser stops, at the first fault in text order.
 #[derive(Clone, Copy, Debug, PartialEq, Eq)]
 pub enum Halt {
-    Fault(Fault),
+    Syntax { line: u32, column: u32 },
+    Limit { which: u8, line: u32 },
     NoMemory,
 }
 

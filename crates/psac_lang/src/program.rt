@@ -1,69 +1,45 @@
 // From bytes to a program.
-ghost use Rattle.std.specs.Prelude.{◌≡◌, ◌⊎◌, ◌↔◌, [], ◌∷◌, IsTrue, IfOk, Ok, Err, Some, slice_get};
+ghost use Rattle.std.specs.Prelude.{◌≡◌, ◌⊎◌, ℕ, Ok, Err, IfOk};
 ghost use Rattle.psac_syntax.specs.declared.program.Program.{Program as ProgramValue};
-ghost use Rattle.psac_grammar.specs.Language.{IsProgram, main_name};
+ghost use Rattle.psac_grammar.specs.Language.{IsProgram, SyntaxAt, LimitAt};
 
 use crate::fault::{Halt, ParseFault};
 use crate::function::whole;
-use psac_syntax::{Func, Program, Word};
+use psac_syntax::Program;
 use psac_tokens::{Lexed, lex};
-use sqlite_items::{Items, at};
-use std::alloc::{AllocError, Global};
+use std::alloc::Global;
 
 const MAX_BYTES: usize = 65_536;
 
-/// Whether the name at this place is `main`.
-fn is_main(names: &[Word], place: u16) -> bool
-    ensures { IsTrue result ↔ (slice_get names.now place ≡ Some main_name) }
-{
-    match at(names, usize::from(place)) {
-        Some(word) => word.bytes() == b"main".as_slice(),
-        None => false,
-    }
-}
-
-fn assembled(
-    alloc: Global,
-    main: Func,
-    names: Items<Word>,
-    reads: u32,
-) -> Result<Program, AllocError>
-    ensures { IfOk result (λ p. p ≡ record { names = names; texts = []; funcs = main ∷ []; blocks = reads }) }
-{
-    let mut funcs = Items::new(alloc);
-    funcs.push(main)?;
-    Ok(Program {
-        names,
-        texts: Items::new(alloc),
-        funcs,
-        blocks: reads,
-    })
-}
-
-/// The program that the bytes are. `Refused` where they are no text of the grammar within the limits.
+/// The program that the bytes are.
 pub fn parse(alloc: Global, bytes: &[u8]) -> Result<Program, ParseFault>
     // What is accepted is a program.
     ensures text { IfOk result (λ p. IsProgram bytes.now p) }
     // Each program is accepted, unless memory runs out.
     ensures only { (p : ProgramValue) → IsProgram bytes.now p → (result ≡ Ok p) ⊎ (result ≡ Err ParseFault.NoMemory) }
-    // What is refused is none.
-    ensures refused { (p : ProgramValue) → IsProgram bytes.now p → ¬ (result ≡ Err ParseFault.Refused) }
+    // No text of the grammar begins with the tokens up to the place.
+    ensures syntax { (line column : ℕ) → result ≡ Err (ParseFault.Syntax line column) → SyntaxAt bytes.now line column }
+    // The token at the place exceeds the limit, first of all.
+    ensures limit { (which line : ℕ) → result ≡ Err (ParseFault.Limit which line) → LimitAt bytes.now which line }
 {
     if bytes.len() > MAX_BYTES {
-        return Err(ParseFault::Refused);
+        return Err(ParseFault::Limit { which: 1, line: 1 });
     }
     let Lexed {
         tokens,
         names,
+        texts,
         reads,
     } = lex(alloc, bytes)?;
-    let main = match whole(alloc, &tokens) {
-        Ok(main) => main,
-        Err(Halt::Fault(_)) => return Err(ParseFault::Refused),
-        Err(Halt::NoMemory) => return Err(ParseFault::NoMemory),
-    };
-    if !is_main(names.as_slice(), main.name) {
-        return Err(ParseFault::Refused);
+    match whole(alloc, &tokens) {
+        Ok(funcs) => Ok(Program {
+            names,
+            texts,
+            funcs,
+            blocks: reads,
+        }),
+        Err(Halt::Syntax { line, column }) => Err(ParseFault::Syntax { line, column }),
+        Err(Halt::Limit { which, line }) => Err(ParseFault::Limit { which, line }),
+        Err(Halt::NoMemory) => Err(ParseFault::NoMemory),
     }
-    Ok(assembled(alloc, main, names, reads)?)
 }

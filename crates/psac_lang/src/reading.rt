@@ -1,117 +1,135 @@
 // One token of a kind.
-ghost use Rattle.std.specs.Prelude.{◌≡◌, ◌≢◌, ◌≤◌, ◌<◌, length, false, OnOk};
-ghost use Rattle.psac_grammar.specs.Marked.{max_parens, max_bodies, max_names};
-ghost use Rattle.psac_grammar.specs.Machine.{mark, opening, a_name, binding, same_kind, of_name};
-ghost use Rattle.psac_lang.specs.Reads.{Reads, Takes, Opens, syntax_halt, limit_halt};
+ghost use Rattle.std.specs.Prelude.{◌≡◌, ◌≤◌, ◌<◌, length, false, None, OnOk};
+ghost use Rattle.psac_grammar.specs.Marked.{max_parens, max_names};
+ghost use Rattle.psac_grammar.specs.Machine.{mark, opening, a_name, binding, listed as one_listed, of_name, closing_of, late_of};
+ghost use Rattle.psac_lang.specs.Marks.{mark_of, is_over};
+ghost use Rattle.psac_lang.specs.Reads.{Reads, Takes, Passes, TakesKind, TakesName, name_list, list_limit};
 
-use crate::cursor::Cursor;
-use crate::fault::{Fault, Halt};
+use crate::cursor::{Cursor, syntax};
+use crate::fault::Halt;
+use crate::marks::{Mark, below, by_length, by_parens};
 use psac_tokens::{Kind, Token};
 
-pub const MAX_PARENS: u8 = 64;
+const MAX_NAMES: usize = 24;
 
-pub const MAX_BODIES: u8 = 32;
+const MAX_GIVEN: usize = 24;
 
-pub const MAX_NAMES: u8 = 24;
-
-pub fn syntax(token: Token) -> Halt
-    ensures { result ≡ syntax_halt token }
-{
-    Halt::Fault(Fault::Syntax {
-        line: token.line,
-        column: token.column,
-    })
+/// A list of names.
+#[derive(Clone, Copy, Debug, PartialEq, Eq)]
+pub enum NameList {
+    HeaderValues,
+    HeaderDests,
+    CallDests,
 }
 
-pub fn limit(which: u8, line: u32) -> Halt
-    ensures { result ≡ limit_halt which line }
+/// Goes past the next token, which may exceed this limit.
+pub fn pass(tokens: &mut Cursor<'_>, mark: Mark) -> Result<(), Halt>
+    ensures passes { Passes mark result tokens.old tokens.new }
+    ensures settled { OnOk result (tokens.new.0.late ≡ late_of (mark_of mark)) }
+    ensures shorter { OnOk result (length tokens.new.1 < length tokens.old.1) }
+    ensures fits { OnOk result (is_over mark ≡ false) }
 {
-    Halt::Fault(Fault::Limit { which, line })
+    tokens.settle()?;
+    if let Mark::Over(which) = mark {
+        return Err(Halt::Limit {
+            which,
+            line: tokens.peek().line,
+        });
+    }
+    tokens.skip(mark)?;
+    Ok(())
+}
+
+/// Goes past a token of this kind, which may exceed this limit.
+pub fn take(tokens: &mut Cursor<'_>, kind: Kind, mark: Mark) -> Result<(), Halt>
+    ensures settled { OnOk result (tokens.new.0.late ≡ late_of (mark_of mark)) }
+    ensures takes { TakesKind kind mark result tokens.old tokens.new }
+    ensures shorter { OnOk result (length tokens.new.1 < length tokens.old.1) }
+    ensures fits { OnOk result (is_over mark ≡ false) }
+{
+    let token = tokens.peek();
+    if token.kind != kind {
+        tokens.settle()?;
+        return Err(syntax(token));
+    }
+    pass(tokens, mark)?;
+    Ok(())
 }
 
 /// Goes past a token of this kind.
 pub fn expect(tokens: &mut Cursor<'_>, kind: Kind) -> Result<(), Halt>
-    requires { same_kind Kind.Unreadable kind ≡ false }
     ensures reads { Takes (mark kind) result tokens.old tokens.new }
-    ensures shorter { OnOk result (length tokens.new.1 ≤ length tokens.old.1) }
+    ensures settled { OnOk result (tokens.new.0.late ≡ None) }
+    ensures shorter { OnOk result (length tokens.new.1 < length tokens.old.1) }
 {
-    let token = tokens.peek();
-    if token.kind != kind {
-        return Err(syntax(token));
-    }
-    tokens.skip();
+    take(tokens, kind, Mark::Fine)?;
     Ok(())
 }
 
 /// Goes past an opening parenthesis inside this many others.
 pub fn open_paren(tokens: &mut Cursor<'_>, parens: u8) -> Result<(), Halt>
-    requires { parens ≤ max_parens }
     ensures reads { Takes (opening parens) result tokens.old tokens.new }
-    ensures shorter { OnOk result (length tokens.new.1 ≤ length tokens.old.1) }
+    ensures shorter { OnOk result (length tokens.new.1 < length tokens.old.1) }
     ensures room { OnOk result (parens < max_parens) }
 {
-    let token = tokens.peek();
-    if token.kind != Kind::LeftParen {
-        return Err(syntax(token));
-    }
-    if parens == MAX_PARENS {
-        return Err(limit(5, token.line));
-    }
-    tokens.skip();
+    take(tokens, Kind::LeftParen, by_parens(parens, Mark::Fine))?;
     Ok(())
 }
 
-/// Goes past the brace that opens a body inside this many others.
-pub fn open_brace(tokens: &mut Cursor<'_>, bodies: u8) -> Result<(), Halt>
-    requires { bodies ≤ max_bodies }
-    ensures reads { Opens bodies result tokens.old tokens.new }
-    ensures shorter { OnOk result (length tokens.new.1 ≤ length tokens.old.1) }
-    ensures room { OnOk result (bodies < max_bodies) }
+/// A name, which may exceed this limit or be too long.
+fn named(tokens: &mut Cursor<'_>, mark: Mark) -> Result<u16, Halt>
+    ensures takes { TakesName mark result tokens.old tokens.new }
+    ensures shorter { OnOk result (length tokens.new.1 < length tokens.old.1) }
+    ensures fits { OnOk result (is_over mark ≡ false) }
 {
     let token = tokens.peek();
-    if token.kind != Kind::LeftBrace {
-        return Err(syntax(token));
-    }
-    if bodies == MAX_BODIES {
-        return Err(limit(4, token.line));
-    }
-    tokens.skip();
-    Ok(())
+    take(tokens, Kind::Name, by_length(mark, token))?;
+    Ok(token.index)
 }
 
 /// A name that is used.
 pub fn name(tokens: &mut Cursor<'_>) -> Result<u16, Halt>
     ensures reads { Reads of_name a_name result tokens.old tokens.new }
-    ensures shorter { OnOk result (length tokens.new.1 ≤ length tokens.old.1) }
+    ensures shorter { OnOk result (length tokens.new.1 < length tokens.old.1) }
 {
-    let token = tokens.peek();
-    if token.kind != Kind::Name {
-        return Err(syntax(token));
-    }
-    if token.over {
-        return Err(limit(6, token.line));
-    }
-    tokens.skip();
-    Ok(token.index)
+    Ok(named(tokens, Mark::Fine)?)
 }
 
 /// A name that is bound beside this many others.
-pub fn bound(tokens: &mut Cursor<'_>, names: u8) -> Result<u16, Halt>
-    requires { names ≤ max_names }
+pub fn bound(tokens: &mut Cursor<'_>, names: usize) -> Result<u16, Halt>
     ensures reads { Reads of_name (binding names) result tokens.old tokens.new }
-    ensures shorter { OnOk result (length tokens.new.1 ≤ length tokens.old.1) }
+    ensures shorter { OnOk result (length tokens.new.1 < length tokens.old.1) }
     ensures room { OnOk result (names < max_names) }
 {
-    let token = tokens.peek();
-    if token.kind != Kind::Name {
-        return Err(syntax(token));
+    Ok(named(tokens, below(names, MAX_NAMES, 8))?)
+}
+
+/// The limit on a name of a list, behind this many others.
+fn list_mark(list: NameList, count: usize) -> Mark
+    ensures value { mark_of result ≡ list_limit list count }
+    ensures room { is_over result ≡ false → count < max_names }
+{
+    match list {
+        NameList::CallDests => below(count, MAX_GIVEN, 9),
+        _ => below(count, MAX_NAMES, 8),
     }
-    if token.over {
-        return Err(limit(6, token.line));
+}
+
+/// A name of a list, behind this many others.
+pub fn listed(tokens: &mut Cursor<'_>, list: NameList, count: usize) -> Result<u16, Halt>
+    ensures reads { Reads of_name (one_listed (name_list list) count) result tokens.old tokens.new }
+    ensures shorter { OnOk result (length tokens.new.1 < length tokens.old.1) }
+    ensures room { OnOk result (count < max_names) }
+{
+    Ok(named(tokens, list_mark(list, count))?)
+}
+
+/// The mark that ends a list.
+pub fn closing(list: NameList) -> Kind
+    ensures { result ≡ closing_of (name_list list) }
+{
+    match list {
+        NameList::HeaderValues => Kind::Semicolon,
+        _ => Kind::RightParen,
     }
-    if names == MAX_NAMES {
-        return Err(limit(8, token.line));
-    }
-    tokens.skip();
-    Ok(token.index)
 }

@@ -1,21 +1,24 @@
 // Statements.
 ghost use Rattle.std.specs.Prelude.{◌≡◌, ◌+◌, ◌<◌, ◌≤◌, [], ◌∷◌, length, true, IfOk, OnOk};
 ghost use Rattle.psac_tokens.specs.declared.token.Kind.TheVariants as k;
-ghost use Rattle.psac_grammar.specs.Marked.{max_bodies, max_names, max_statements};
+ghost use Rattle.psac_grammar.specs.Marked.{max_bodies, max_names};
 ghost use Rattle.psac_grammar.specs.Grammar.{top};
-ghost use Rattle.psac_grammar.specs.Machine.{level, mark, make, a_name, binding, first, let_made, new_made, write_made};
-ghost use Rattle.psac_lang.specs.Reads.{AddsItem, ReadsItems, AddsStmt, AddsRead, NextStmt, ReadsBody, begins_statement, bound_by, item_follows};
+ghost use Rattle.psac_grammar.specs.Machine.{level, mark, make, a_name, binding, block as one_block, values as all_values, before_values, more_items, first, of_items, of_stmts, let_made, new_made, write_made, read_made, if_made, par_made, call_made, item_made};
+ghost use Rattle.psac_lang.specs.Reads.{Reads, AddsStmt, NextStmt, ReadsBody, begins_statement, bound_by};
 
-use crate::cursor::Cursor;
-use crate::expression::{TOP, expr};
+use crate::cursor::{Cursor, syntax};
+use crate::expression::expr;
 use crate::fault::Halt;
-use crate::reading::{bound, expect, limit, name, open_brace, syntax};
+use crate::lists::{items, names, values};
+use crate::marks::{Mark, below};
+use crate::reading::{NameList, bound, expect, name, pass, take};
+use crate::start::TOP;
 use psac_syntax::{ReadItem, Stmt};
 use psac_tokens::Kind;
 use sqlite_items::Items;
 use std::alloc::Global;
 
-const MOST_ITEMS: usize = 4;
+const MAX_BODIES: usize = 32;
 
 const MAX_STATEMENTS: usize = 64;
 
@@ -23,13 +26,14 @@ fn begins(kind: Kind) -> bool
     ensures { result ≡ begins_statement kind }
 {
     match kind {
-        Kind::Let | Kind::New | Kind::Write | Kind::Read => true,
+        Kind::Let | Kind::New | Kind::Write | Kind::Read | Kind::If | Kind::Par | Kind::Call =>
+            true,
         _ => false,
     }
 }
 
 /// How many names a statement binds for those behind it.
-fn names_bound(kind: Kind) -> u8
+fn names_bound(kind: Kind) -> usize
     ensures value { result ≡ bound_by kind }
     ensures within { result ≤ 1 }
 {
@@ -39,51 +43,11 @@ fn names_bound(kind: Kind) -> u8
     }
 }
 
-/// Whether one more item follows behind this many.
-fn follows(count: usize, kind: Kind) -> bool
-    ensures { result ≡ item_follows count kind }
-{
-    count < MOST_ITEMS && kind == Kind::Comma
-}
-
-/// One item of a read block, beside this many names.
-fn item(alloc: Global, tokens: &mut Cursor<'_>, names: u8) -> Result<ReadItem, Halt>
-    requires { names ≤ max_names }
-    ensures adds { AddsItem names result tokens.old tokens.new }
-    ensures shorter { OnOk result (length tokens.new.1 ≤ length tokens.old.1) }
-    ensures room { OnOk result (names < max_names) }
-{
-    let from = expr(alloc, tokens, TOP, 0)?;
-    expect(tokens, Kind::As)?;
-    let bound = bound(tokens, names)?;
-    Ok(ReadItem {
-        from: from.expr,
-        bound,
-    })
-}
-
-/// The items of a read block, beside this many names.
-fn items(alloc: Global, tokens: &mut Cursor<'_>, names: u8) -> Result<Items<ReadItem>, Halt>
-    requires { names ≤ max_names }
-    ensures reads { ReadsItems names result tokens.old tokens.new }
-    ensures shorter { OnOk result (length tokens.new.1 ≤ length tokens.old.1) }
-    ensures room { IfOk result (λ v. names + length v ≤ max_names) }
-{
-    let mut items = Items::new(alloc);
-    items.push(item(alloc, tokens, names)?)?;
-    'more: while follows(items.len(), tokens.peek().kind) {
-        tokens.skip();
-        let bound = names + items.len() as u8;
-        items.push(item(alloc, tokens, bound)?)?;
-    }
-    Ok(items)
-}
-
 /// What stands behind `let`.
-fn let_rest(alloc: Global, tokens: &mut Cursor<'_>, line: u32, names: u8) -> Result<Stmt, Halt>
+fn let_rest(alloc: Global, tokens: &mut Cursor<'_>, line: u32, names: usize) -> Result<Stmt, Halt>
     requires { names ≤ max_names }
-    ensures adds { AddsStmt (binding names ∷ mark k.Assign ∷ level top 0 ∷ mark k.Semicolon ∷ make (let_made line) ∷ []) result tokens.old tokens.new }
-    ensures shorter { OnOk result (length tokens.new.1 ≤ length tokens.old.1) }
+    ensures adds { AddsStmt (binding names ∷ mark k.Assign ∷ level top 0 ∷ mark k.Semicolon ∷ make (let_made line) ∷ []) [] result tokens.old tokens.new }
+    ensures shorter { OnOk result (length tokens.new.1 < length tokens.old.1) }
     ensures room { OnOk result (names < max_names) }
 {
     let name = bound(tokens, names)?;
@@ -98,10 +62,10 @@ fn let_rest(alloc: Global, tokens: &mut Cursor<'_>, line: u32, names: u8) -> Res
 }
 
 /// What stands behind `new`.
-fn new_rest(tokens: &mut Cursor<'_>, line: u32, names: u8) -> Result<Stmt, Halt>
+fn new_rest(tokens: &mut Cursor<'_>, line: u32, names: usize) -> Result<Stmt, Halt>
     requires { names ≤ max_names }
-    ensures adds { AddsStmt (binding names ∷ mark k.Semicolon ∷ make (new_made line) ∷ []) result tokens.old tokens.new }
-    ensures shorter { OnOk result (length tokens.new.1 ≤ length tokens.old.1) }
+    ensures adds { AddsStmt (binding names ∷ mark k.Semicolon ∷ make (new_made line) ∷ []) [] result tokens.old tokens.new }
+    ensures shorter { OnOk result (length tokens.new.1 < length tokens.old.1) }
     ensures room { OnOk result (names < max_names) }
 {
     let name = bound(tokens, names)?;
@@ -111,8 +75,8 @@ fn new_rest(tokens: &mut Cursor<'_>, line: u32, names: u8) -> Result<Stmt, Halt>
 
 /// What stands behind `write`.
 fn write_rest(alloc: Global, tokens: &mut Cursor<'_>, line: u32) -> Result<Stmt, Halt>
-    ensures adds { AddsStmt (a_name ∷ mark k.Assign ∷ level top 0 ∷ mark k.Semicolon ∷ make (write_made line) ∷ []) result tokens.old tokens.new }
-    ensures shorter { OnOk result (length tokens.new.1 ≤ length tokens.old.1) }
+    ensures adds { AddsStmt (a_name ∷ mark k.Assign ∷ level top 0 ∷ mark k.Semicolon ∷ make (write_made line) ∷ []) [] result tokens.old tokens.new }
+    ensures shorter { OnOk result (length tokens.new.1 < length tokens.old.1) }
 {
     let dest = name(tokens)?;
     expect(tokens, Kind::Assign)?;
@@ -122,6 +86,24 @@ fn write_rest(alloc: Global, tokens: &mut Cursor<'_>, line: u32) -> Result<Stmt,
         line,
         dest,
         value: value.expr,
+    })
+}
+
+/// What stands behind `call`.
+fn call_rest(alloc: Global, tokens: &mut Cursor<'_>, line: u32) -> Result<Stmt, Halt>
+    ensures adds { AddsStmt (a_name ∷ before_values ∷ all_values ∷ mark k.Semicolon ∷ make (call_made line) ∷ []) [] result tokens.old tokens.new }
+    ensures shorter { OnOk result (length tokens.new.1 < length tokens.old.1) }
+{
+    let func = name(tokens)?;
+    take(tokens, Kind::LeftParen, Mark::Fine)?;
+    let values = values(alloc, tokens)?;
+    let dests = names(alloc, tokens, NameList::CallDests, 0)?;
+    expect(tokens, Kind::Semicolon)?;
+    Ok(Stmt::Call {
+        line,
+        func,
+        values,
+        dests,
     })
 }
 
@@ -142,20 +124,64 @@ fn read_rest(
     alloc: Global,
     tokens: &mut Cursor<'_>,
     line: u32,
-    block: u16,
-    bodies: u8,
-    names: u8,
+    index: u16,
+    bodies: usize,
+    names: usize,
 ) -> Result<Stmt, Halt>
     requires bodies { bodies ≤ max_bodies }
     requires names { names ≤ max_names }
-    ensures adds { AddsRead line block bodies names result tokens.old tokens.new }
-    ensures shorter { OnOk result (length tokens.new.1 ≤ length tokens.old.1) }
+    ensures adds { AddsStmt (level top 0 ∷ mark k.As ∷ binding names ∷ make item_made ∷ more_items 1 bodies names ∷ make (read_made line index) ∷ []) (of_items [] ∷ []) result tokens.old tokens.new }
+    ensures shorter { OnOk result (length tokens.new.1 < length tokens.old.1) }
 {
     let items = items(alloc, tokens, names)?;
-    open_brace(tokens, bodies)?;
-    let inside = names + items.len() as u8;
-    let body = body(alloc, tokens, bodies + 1, inside)?;
-    Ok(read_of(line, block, items, body))
+    let inside = names + items.len();
+    let body = block(alloc, tokens, bodies, inside)?;
+    Ok(read_of(line, index, items, body))
+}
+
+/// What stands behind `if`, inside this many bodies.
+#[cycle(body)]
+fn if_rest(
+    alloc: Global,
+    tokens: &mut Cursor<'_>,
+    line: u32,
+    bodies: usize,
+    names: usize,
+) -> Result<Stmt, Halt>
+    requires bodies { bodies ≤ max_bodies }
+    requires names { names ≤ max_names }
+    ensures adds { AddsStmt (level top 0 ∷ one_block bodies names ∷ mark k.Else ∷ one_block bodies names ∷ make (if_made line) ∷ []) [] result tokens.old tokens.new }
+    ensures shorter { OnOk result (length tokens.new.1 < length tokens.old.1) }
+{
+    let cond = expr(alloc, tokens, TOP, 0)?;
+    let yes = block(alloc, tokens, bodies, names)?;
+    expect(tokens, Kind::Else)?;
+    let no = block(alloc, tokens, bodies, names)?;
+    Ok(Stmt::If {
+        line,
+        cond: cond.expr,
+        yes,
+        no,
+    })
+}
+
+/// What stands behind `par`, inside this many bodies.
+#[cycle(body)]
+fn par_rest(
+    alloc: Global,
+    tokens: &mut Cursor<'_>,
+    line: u32,
+    bodies: usize,
+    names: usize,
+) -> Result<Stmt, Halt>
+    requires bodies { bodies ≤ max_bodies }
+    requires names { names ≤ max_names }
+    ensures adds { AddsStmt (one_block bodies names ∷ one_block bodies names ∷ make (par_made line) ∷ []) [] result tokens.old tokens.new }
+    ensures shorter { OnOk result (length tokens.new.1 < length tokens.old.1) }
+{
+    let left = block(alloc, tokens, bodies, names)?;
+    let right = block(alloc, tokens, bodies, names)?;
+    Ok(Stmt::Par { line, left, right })
 }
 
 /// A statement inside this many bodies, beside this many names and behind this many statements.
@@ -163,45 +189,43 @@ fn read_rest(
 fn statement(
     alloc: Global,
     tokens: &mut Cursor<'_>,
-    bodies: u8,
-    names: u8,
+    bodies: usize,
+    names: usize,
     count: usize,
 ) -> Result<Stmt, Halt>
     requires begins { begins_statement (first tokens.old).kind ≡ true }
     requires bodies { bodies ≤ max_bodies }
     requires names { names ≤ max_names }
-    requires count { count ≤ max_statements }
     ensures adds { NextStmt bodies names count result tokens.old tokens.new }
     ensures shorter { OnOk result (length tokens.new.1 < length tokens.old.1) }
     ensures room { OnOk result (names + bound_by (first tokens.old).kind ≤ max_names) }
-    ensures few { OnOk result (count < max_statements) }
 {
     let token = tokens.peek();
-    if count == MAX_STATEMENTS {
-        return Err(limit(3, token.line));
-    }
-    tokens.skip();
+    pass(tokens, below(count, MAX_STATEMENTS, 3))?;
     match token.kind {
         Kind::Let => let_rest(alloc, tokens, token.line, names),
         Kind::New => new_rest(tokens, token.line, names),
         Kind::Write => write_rest(alloc, tokens, token.line),
         Kind::Read => read_rest(alloc, tokens, token.line, token.index, bodies, names),
+        Kind::If => if_rest(alloc, tokens, token.line, bodies, names),
+        Kind::Par => par_rest(alloc, tokens, token.line, bodies, names),
+        Kind::Call => call_rest(alloc, tokens, token.line),
         _ => Err(syntax(token)),
     }
 }
 
 /// The statements of a body and the brace behind them, inside this many bodies and beside this many names.
 #[cycle(body)]
-pub fn body(
+fn body(
     alloc: Global,
     tokens: &mut Cursor<'_>,
-    bodies: u8,
-    names: u8,
+    bodies: usize,
+    names: usize,
 ) -> Result<Items<Stmt>, Halt>
     requires bodies { bodies ≤ max_bodies }
     requires names { names ≤ max_names }
     ensures reads { ReadsBody bodies names result tokens.old tokens.new }
-    ensures shorter { OnOk result (length tokens.new.1 ≤ length tokens.old.1) }
+    ensures shorter { OnOk result (length tokens.new.1 < length tokens.old.1) }
 {
     let mut stmts = Items::new(alloc);
     let mut scope = names;
@@ -213,4 +237,21 @@ pub fn body(
     }
     expect(tokens, Kind::RightBrace)?;
     Ok(stmts)
+}
+
+/// A body in braces inside this many others, beside this many names.
+#[cycle(body)]
+pub fn block(
+    alloc: Global,
+    tokens: &mut Cursor<'_>,
+    bodies: usize,
+    names: usize,
+) -> Result<Items<Stmt>, Halt>
+    requires bodies { bodies ≤ max_bodies }
+    requires names { names ≤ max_names }
+    ensures reads { Reads of_stmts (one_block bodies names) result tokens.old tokens.new }
+    ensures shorter { OnOk result (length tokens.new.1 < length tokens.old.1) }
+{
+    take(tokens, Kind::LeftBrace, below(bodies, MAX_BODIES, 4))?;
+    Ok(body(alloc, tokens, bodies + 1, names)?)
 }
