@@ -1,3 +1,14 @@
 pub mod GridRows
 pub mod LineParts
-pub mod IntCells
+pub mod OneColumn
+pub mod CellWrites
+pub mod EditLists
+pub mod RowEdits
+pub mod Staging
+pub mod Netting
+pub mod EditMap
+pub mod Putting
+pub mod TextPlaces
+pub mod TextGrowth
+pub mod Records
+pub mod CsvRecords

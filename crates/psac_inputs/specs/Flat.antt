@@ -14,7 +14,6 @@ shown i = flat_grid i.opened i.room i.rows i.cols i.cells.items
 
 pub record IsFlat (i : Inside) : Type 0 where
   pub fits : i.room * i.cols ≤ most_cells
-  pub opens : i.opened ≤ i.room
   pub within : i.rows ≤ i.room
   pub whole : length i.cells.items ≡ i.room * i.cols
   pub plain : All IsCellValue i.cells.items

@@ -44,7 +44,6 @@ nil_rows n cols = replicate n (replicate cols Nil)
 -- what holds of every grid
 pub record IsGrid (g : Grid) : Type 0 where
   pub fits : g.room * g.cols ≤ most_cells
-  pub opens : g.opened ≤ g.room
   pub within : g.rows ≤ g.room
   pub whole : length g.cells ≡ g.room
   pub even : All (λ row. length row ≡ g.cols) g.cells
@@ -70,9 +69,9 @@ with_cell r c v g = record g { cells = slice_set g.cells r (row_with c v (slice_
 abbrev pub with_rows : ℕ → Grid → Grid
 with_rows n g = record g { rows = n; cells = take n g.cells ++ nil_rows (g.room - n) g.cols }
 
--- the grid with more room
+-- the grid with room for so many rows: behind the present rows there is Nil
 abbrev pub widened : ℕ → Grid → Grid
-widened room g = record g { room = room; cells = g.cells ++ nil_rows (room - g.room) g.cols }
+widened room g = record g { room = room; cells = take g.rows g.cells ++ nil_rows (room - g.rows) g.cols }
 
 -- the room where so many rows are asked for: no fewer than there are, and no more cells than may be
 abbrev pub room_for : ℕ → ℕ → ℕ → ℕ

@@ -1,6 +1,8 @@
 pub mod Texts
+pub mod TextList
 pub mod Grid
 pub mod Flat
 pub mod Batch
-pub mod Ints
+pub mod Staged
 pub mod Load
+pub mod Reads

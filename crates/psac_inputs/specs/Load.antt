@@ -1,5 +1,6 @@
 -- How an input is read into a grid.
-use Rattle.std.specs.Prelude.{ℕ, ◌+◌, ◌*◌, ◌==◌, not, nat_lt, if◌then◌else◌, List, [], ◌∷◌, length, map, Result, Ok, Err}
+use Rattle.std.specs.Prelude.{◌≡◌, ◌⊎◌, ◌++◌, ℕ, ◌+◌, ◌*◌, ◌==◌, not, nat_lt, if◌then◌else◌, List, [], ◌∷◌, length, map, Result, Ok, Err}
+use Rattle.csv.specs.Reading.{default_config, records, strip_bom}
 use Rattle.psac_base.specs.Feeds.{lines_of}
 use Rattle.psac_ops.specs.declared.plain.Plain.{Plain}
 use Rattle.psac_ops.specs.Table.{◌>>=◌}
@@ -11,11 +12,14 @@ use Rattle.psac_inputs.specs.Texts.{Texts, field}
 use Rattle.psac_inputs.specs.Grid.{Grid, grid_of, most_cells}
 
 -- the fault of a field, with the number of its record
+abbrev pub fault_of : ℕ → TextFault → InputFault
+fault_of n text_fault.Utf8 = Utf8 n
+fault_of n text_fault.Limit = TooManyTexts n
+fault_of n text_fault.NoMemory = NoMemory
+
 abbrev pub fault_at : {A : Type 0} → ℕ → Result A TextFault → Result A InputFault
 fault_at n (Ok x) = Ok x
-fault_at n (Err text_fault.Utf8) = Err (Utf8 n)
-fault_at n (Err text_fault.Limit) = Err (TooManyTexts n)
-fault_at n (Err text_fault.NoMemory) = Err NoMemory
+fault_at n (Err e) = Err (fault_of n e)
 
 -- the fields of the n-th record, in order
 abbrev pub fields_of : ℕ → List (List ℕ) → Texts → Result (List Plain × Texts) InputFault
@@ -51,3 +55,16 @@ loaded records texts = do
 -- each line is a record of one field
 abbrev pub loaded_lines : List ℕ → Texts → Result (Grid × Texts) InputFault
 loaded_lines bytes texts = loaded (map (λ line. line ∷ []) (lines_of bytes)) texts
+
+-- the records are csv's own by its default settings, without a header row
+abbrev pub loaded_csv : List ℕ → Texts → Result (Grid × Texts) InputFault
+loaded_csv bytes texts = loaded (records default_config (strip_bom bytes)) texts
+
+-- a list that goes on where another ends
+abbrev pub Begins : Texts → Texts → Type 0
+Begins old new = (more : Texts) × (new ≡ old ++ more)
+
+-- what a loader answers: the grid and the texts, or the fault; memory may be wanting
+abbrev pub Loads : Result (Grid × Texts) InputFault → Result Grid InputFault → Texts → Type 0
+Loads told (Ok g) texts = told ≡ Ok (g, texts)
+Loads told (Err e) texts = (e ≡ NoMemory) ⊎ (told ≡ Err e)

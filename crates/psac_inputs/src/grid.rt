@@ -1,7 +1,9 @@
 // The grid of input cells.
-ghost use Rattle.std.specs.Prelude.{◌≡◌, ◌*◌, ◌≤◌, ◌<◌, All, length, IfOk, Some};
-ghost use Rattle.psac_inputs.specs.Grid.{cell, column_of, grid_of, nil_rows, rows_of, with_cell, IsCellValue, IsGrid};
+ghost use Rattle.std.specs.Prelude.{◌≡◌, ◌-◌, ◌*◌, ◌≤◌, ◌<◌, All, drop, length, IfOk, Some};
+ghost use Rattle.psac_inputs.specs.Batch.{is_value, put_all, GoesInto};
+ghost use Rattle.psac_inputs.specs.Grid.{cell, column_of, grid_of, nil_rows, rows_of, widened, with_cell, IsCellValue, IsGrid};
 
+use crate::batch::Batch;
 use psac_base::NoMemory;
 use psac_ops::Plain;
 use std::alloc::Global;
@@ -112,6 +114,16 @@ impl Grid {
         self.cells[(row * self.cols + col) as usize]
     }
 
+    // Whether a cell below the room holds the value.
+    pub(crate) fn holds(&self, row: u32, col: u32, value: Plain) -> bool
+        ensures { result ≡ is_value value (cell row col self.now) }
+    {
+        if row >= self.room || col >= self.cols {
+            return false;
+        }
+        value == self.get(row, col)
+    }
+
     /// Gives a cell of a present row another value.
     pub fn put(&mut self, row: u32, col: u32, value: Plain)
         requires row { row < self.old.rows }
@@ -121,5 +133,45 @@ impl Grid {
     {
         let at = (row * self.cols + col) as usize;
         self.cells[at] = value;
+    }
+
+    /// Sets the present number of rows, where the others hold Nil.
+    pub fn set_rows(&mut self, rows: u32)
+        requires within { rows ≤ self.old.room }
+        requires beyond { drop rows self.old.cells ≡ nil_rows (self.old.room - rows) self.old.cols }
+        ensures { self.new ≡ record self.old { rows = rows } }
+    {
+        self.rows = rows;
+    }
+
+    /// Gives the grid room for so many rows, no fewer than are present. The new cells hold Nil.
+    pub fn widen(self, room: u32) -> Result<Grid, NoMemory>
+        requires rows { self.rows ≤ room }
+        requires fits { room * self.cols ≤ 65536 }
+        ensures { IfOk result (λ g. g ≡ widened room self) }
+    {
+        let mut cells = self.cells;
+        cells.resize((room * self.cols) as usize, Plain::Nil)?;
+        Ok(Grid {
+            opened: self.opened,
+            room,
+            rows: self.rows,
+            cols: self.cols,
+            cells,
+        })
+    }
+
+    /// Gives each staged cell its value, and makes the staged number of rows the present one. Takes no memory.
+    pub fn put_all(&mut self, batch: &Batch)
+        requires { GoesInto batch.now self.old }
+        ensures { self.new ≡ put_all batch.now self.old }
+    {
+        let rows = batch.staged_rows();
+        for i in 0..batch.len() {
+            let edit = batch.edit(i);
+            let at = (edit.row * self.cols + edit.col) as usize;
+            self.cells[at] = edit.value;
+        }
+        self.rows = rows;
     }
 }

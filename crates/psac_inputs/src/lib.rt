@@ -1,17 +1,19 @@
 //! The grid of input cells, the texts, and how inputs are read.
 #![tactic(auto)]
 
+mod batch;
 mod fault;
 mod grid;
 mod interner;
-mod ints;
 mod lines;
+mod load;
 
-pub use fault::{InputFault, TextFault};
+pub use batch::{Batch, Edit};
+pub use fault::{BatchFault, InputFault, TextFault};
 pub use grid::Grid;
 pub use interner::Interner;
-pub use ints::{IntsFault, load_ints};
 pub use lines::split_line;
+pub use load::{load_csv, load_lines};
 
 #[cfg(test)]
 mod tests;

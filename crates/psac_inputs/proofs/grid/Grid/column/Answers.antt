@@ -1,5 +1,5 @@
 use Rattle.std.proofs.Common.{rules, ◌∙◌}
-use Rattle.psac_inputs.proofs.IntCells.{column_rows}
+use Rattle.psac_inputs.proofs.OneColumn.{column_rows}
 use Rattle.psac_inputs.proofs.grid.Grid.column.Goals as goal
 
 pub returns : goal.returns

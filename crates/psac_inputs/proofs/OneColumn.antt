@@ -1,12 +1,8 @@
--- A column of numbers, read line by line.
-use Rattle.std.proofs.Common.{◌≡◌, ℕ, List, [], ◌∷◌, ◌++◌, length, map, arith, refl, ap, Option}
-use Rattle.std.specs.Prelude.{option_map, min}
+-- A grid of one column.
+use Rattle.std.proofs.Common.{◌≡◌, ℕ, List, [], ◌∷◌, length, map, arith, refl, ap}
+use Rattle.std.specs.Prelude.{min}
 use Rattle.psac_ops.specs.declared.plain.Plain.{Plain}
 use Rattle.psac_inputs.specs.Grid.{column_of, grid_of, rows_of}
-
--- the cells so far, and those of the other lines
-abbrev pub followed_by : List Plain → Option (List Plain) → Option (List Plain)
-followed_by cells rest = option_map (λ more. cells ++ more) rest
 
 rows_of_one : (cells : List Plain) → rows_of 1 (length cells) cells ≡ map (λ value. value ∷ []) cells
 rows_of_one [] = refl
