@@ -1,0 +1,10 @@
+pub mod Layers
+pub mod Firsts
+pub mod Members
+pub mod Bound
+pub mod Calls
+pub mod Follow
+pub mod Headers
+pub mod Whole
+pub mod Walks
+pub mod Compound
