@@ -11,7 +11,8 @@ mod reply;
 mod text;
 
 pub use command::{Command, FormRefused, read_command};
-pub use refused::{input_line, limit_line, syntax_line, usage_line};
+pub use number::read_number;
+pub use refused::{check_line, input_line, limit_line, syntax_line, usage_line};
 pub use reply::{Reply, reply_text};
 pub use text::push_count;
 

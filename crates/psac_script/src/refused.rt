@@ -1,9 +1,11 @@
 // The lines for words, a program or an input that isn't accepted.
-ghost use Rattle.std.specs.Prelude.{◌≡◌, IfOk};
-ghost use Rattle.psac_report.specs.Refused.{usage_line, syntax_line, limit_line, program_line, input_line, record_line};
+ghost use Rattle.std.specs.Prelude.{◌≡◌, [], IfOk, MatchOption};
+ghost use Rattle.psac_report.specs.Refused.{usage_line, syntax_line, limit_line, breach_line, program_line, input_line, record_line};
+ghost use Rattle.psac_check.specs.Faults.{fault_of};
 
 use crate::text::push_number;
 use psac_base::NoMemory;
+use psac_check::CheckFault;
 use psac_inputs::InputFault;
 use std::alloc::Global;
 
@@ -33,6 +35,28 @@ pub fn limit_line(alloc: Global, which: u8, line: u32) -> Result<Vec<u8>, NoMemo
     told.extend_from_slice(b" limit ")?;
     push_number(&mut told, u64::from(which))?;
     program_line(alloc, line, &told)
+}
+
+/// The line of a program that doesn't meet the series rule. Of want of memory it is empty.
+pub fn check_line(alloc: Global, fault: CheckFault) -> Result<Vec<u8>, NoMemory>
+    ensures { IfOk result (λ text. MatchOption (fault_of fault) (text.items ≡ []) (λ first. text.items ≡ breach_line first.0 first.1)) }
+{
+    match fault {
+        CheckFault::UnknownName { line } => program_line(alloc, line, b" unknown name"),
+        CheckFault::Rebound { line } => program_line(alloc, line, b" rebound"),
+        CheckFault::ReadBeforeWrite { line } => program_line(alloc, line, b" read before write"),
+        CheckFault::WrittenTwice { line } => program_line(alloc, line, b" written twice"),
+        CheckFault::NotWritten { line } => program_line(alloc, line, b" not written"),
+        CheckFault::BranchesDiffer { line } => program_line(alloc, line, b" branches differ"),
+        CheckFault::WrittenInBothSides { line } => {
+            program_line(alloc, line, b" written in both sides")
+        }
+        CheckFault::UnknownFunction { line } => program_line(alloc, line, b" unknown function"),
+        CheckFault::Arity { line } => program_line(alloc, line, b" arity"),
+        CheckFault::NoMain { line } => program_line(alloc, line, b" no main"),
+        CheckFault::WrongSort { line } => program_line(alloc, line, b" wrong sort"),
+        CheckFault::NoMemory => Ok(Vec::new(alloc)),
+    }
 }
 
 fn program_line(alloc: Global, line: u32, told: &[u8]) -> Result<Vec<u8>, NoMemory>
