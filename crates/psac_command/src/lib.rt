@@ -1,0 +1,11 @@
+//! The command line: what its words ask for.
+#![tactic(auto)]
+
+mod request;
+mod setting;
+mod words;
+
+pub use request::{Mode, Request, Settings, read_request};
+
+#[cfg(test)]
+mod tests;

@@ -1,0 +1,127 @@
+// What is asked for.
+ghost use Rattle.std.specs.Prelude.{◌≡◌, IfOk, IfSome, option_map, map, string_bytes};
+ghost use Rattle.psac_command.specs.Asked.{AreCaps, asked, asked_by, caps_of, mode_of, settings_of};
+ghost use Rattle.psac_command.specs.Views.{request_view, words_view};
+
+use crate::setting::{Bounds, read_setting};
+use crate::words::{Words, read_words};
+use psac_base::NoMemory;
+use psac_model::Caps;
+use std::alloc::Global;
+
+/// What is to be done with a program and an input.
+#[derive(Clone, Copy, Debug, PartialEq, Eq)]
+pub enum Mode {
+    /// One run.
+    Once,
+    /// A script of edits and commits.
+    Session,
+}
+
+/// What the options set.
+#[derive(Clone, Copy, Debug, PartialEq, Eq)]
+pub struct Settings {
+    /// How many threads may run at once, from 1 to 64.
+    pub workers: u32,
+    /// The most parts of a record, each from 1 to 1,048,576.
+    pub caps: Caps,
+    /// For how many rows there is room, from 0 to 65,536.
+    pub rows: u32,
+}
+
+/// What the words of a command line ask for.
+#[derive(Clone, Copy, Debug)]
+pub struct Request<'a> {
+    pub mode: Mode,
+    /// The name of the program's file.
+    pub program: &'a str,
+    /// The name of the input's file.
+    pub input: &'a str,
+    pub settings: Settings,
+}
+
+const WORKERS: Bounds = Bounds {
+    least: 1,
+    most: 64,
+    default: 4,
+};
+
+const NODES: Bounds = Bounds {
+    least: 1,
+    most: 1_048_576,
+    default: 262_144,
+};
+
+const MODS: Bounds = Bounds {
+    least: 1,
+    most: 1_048_576,
+    default: 131_072,
+};
+
+const LINKS: Bounds = Bounds {
+    least: 1,
+    most: 1_048_576,
+    default: 262_144,
+};
+
+const ROWS: Bounds = Bounds {
+    least: 0,
+    most: 65_536,
+    default: 0,
+};
+
+fn read_mode(word: &str) -> Option<Mode>
+    ensures { result ≡ mode_of word.now }
+{
+    match word {
+        "once" => Some(Mode::Once),
+        "session" => Some(Mode::Session),
+        _ => None,
+    }
+}
+
+fn read_caps(words: &Words<'_>) -> Option<Caps>
+    ensures value { result ≡ caps_of (words_view words.now) }
+    ensures within { IfSome result AreCaps }
+{
+    Some(Caps {
+        nodes: read_setting(NODES, words.nodes)?,
+        mods: read_setting(MODS, words.mods)?,
+        links: read_setting(LINKS, words.links)?,
+    })
+}
+
+fn read_settings(words: &Words<'_>) -> Option<Settings>
+    ensures value { result ≡ settings_of (words_view words.now) }
+    ensures within { IfSome result (λ s. AreCaps s.caps) }
+{
+    Some(Settings {
+        workers: read_setting(WORKERS, words.workers)?,
+        caps: read_caps(words)?,
+        rows: read_setting(ROWS, words.rows)?,
+    })
+}
+
+fn read_texts<'a>(words: &Words<'a>) -> Option<Request<'a>>
+    ensures value { option_map request_view result ≡ asked_by (words_view words.now) }
+    ensures within { IfSome result (λ r. AreCaps r.settings.caps) }
+{
+    Some(Request {
+        mode: read_mode(words.mode?)?,
+        program: words.program?,
+        input: words.input?,
+        settings: read_settings(words)?,
+    })
+}
+
+/// Reads the words, the program's own name first: nothing where they ask for nothing that is known.
+/// `NoMemory` is want of memory.
+pub fn read_request<'a>(alloc: Global, words: &'a [String]) -> Result<Option<Request<'a>>, NoMemory>
+    ensures asked { IfOk result (λ found. option_map request_view found ≡ asked (map string_bytes words.now)) }
+    ensures within { IfOk result (λ found. IfSome found (λ r. AreCaps r.settings.caps)) }
+{
+    match read_words(alloc, words)? {
+        Some(texts) => Ok(read_texts(&texts)),
+        None => Ok(None),
+    }
+}
