@@ -1,0 +1,3 @@
+pub mod Judges
+pub mod Worlds
+pub mod Placed

@@ -1,0 +1,39 @@
+-- What a commit answers, and what it keeps.
+use Rattle.std.specs.Prelude.{◌≡◌, ℕ, ◌≤◌, Contains, Option, Some, None, Result, Ok, Err}
+use Rattle.psac_inputs.specs.Grid.{Grid}
+use Rattle.psac_model.specs.declared.ends.Caps.{Caps}
+use Rattle.psac_model.specs.declared.ends.Work.{Work}
+use Rattle.psac_model.specs.Names.{Name, Heap}
+use Rattle.psac_model.specs.Tree.{size_of}
+use Rattle.psac_model.specs.Run.{Ran}
+use Rattle.psac_model.specs.Fresh.{World, Outcome, Full, Fault, Good, fresh}
+use Rattle.psac_model.specs.Work.{anew_work}
+use Rattle.psac_engine.specs.declared.answer.Answer.{Answer}
+use Rattle.psac_engine.specs.declared.answer.Answer.TheVariants as answer
+
+-- as many of one kind as a record may have
+abbrev pub most_parts : ℕ
+most_parts = 1048576
+
+abbrev pub IsCap : ℕ → Type 0
+IsCap n = (1 ≤ n) × (n ≤ most_parts)
+
+abbrev pub IsCaps : Caps → Type 0
+IsCaps caps = IsCap caps.nodes × IsCap caps.mods × IsCap caps.links
+
+-- as many commits as there may be
+abbrev pub most_commits : ℕ
+most_commits = 1000000000
+
+-- what a commit that runs anew answers to an outcome; want of memory may always be answered
+abbrev pub Answers : Outcome → Result Work Answer → Type 0
+Answers (Good tree heap) (Ok work) = work ≡ anew_work (size_of tree)
+Answers (Fault kind line) (Err (answer.Fault k l)) = (k ≡ kind) × (l ≡ line)
+Answers (Full which) (Err (answer.Full k)) = Contains which k
+Answers o (Err answer.NoMemory) = Unit {0}
+Answers o _ = ⊥
+
+-- the run that is kept after an answer
+abbrev pub kept_after : World → Grid → Result Work Answer → Option (Ran Name Heap)
+kept_after w g (Ok work) = Some (fresh w g)
+kept_after w g (Err a) = None

@@ -1,0 +1,4 @@
+pub mod Judged
+pub mod Commit
+pub mod Sound
+pub mod Engine
