@@ -1,0 +1,218 @@
+-- How a session ends.
+use Rattle.std.proofs.Common.{◌≡◌, ◌∙◌, ℕ, ◌≤◌, ◌<◌, ◌+◌, ◌-◌, ◌||◌, Bool, true, false, List, [], ◌∷◌, ◌++◌, ◌⊎◌, inl, inr, Option, Some, None, length, take, drop, slice_index, refl, ap, sym, subst, arith, append_assoc, length-append}
+use Rattle.std.specs.List.{list_any}
+use Rattle.std.specs.Io.KnownBytes.{Consumes, IsAtEnd}
+use Rattle.std.proofs.lemmas.List.{append-nil, drop_all, take-append-le}
+use Rattle.std.proofs.lemmas.List.Folds.{list_any-append}
+use Rattle.std.proofs.Math.Seq.{take-append_seam, take-append-add, take-length}
+use Rattle.psac_base.specs.Feeds.{NoFeed, lines_of}
+use Rattle.psac_base.specs.Lines.{GivesLine, Grew, NoFeedBeforePiece}
+use Rattle.psac_base.specs.Outside.{Appended, AppendedPart}
+use Rattle.psac_base.proofs.Splits.{last_is_last, whole_is_next}
+use Rattle.psac_base.proofs.Wrote.{Appended-append, Appended-nil}
+use Rattle.psac_model.specs.Fresh.{World}
+use Rattle.psac_report.specs.Session.{State}
+use Rattle.psac_report.specs.First.{Step, is_quit, replies_by}
+use Rattle.psac_session.specs.Answered.{Answer, Answered, AnsweredLong, AnsweredPart, AnsweredTo, AnsweredWhole, IsScript, ReadOut}
+use Rattle.psac_session.proofs.Replies.{replies_quit}
+use Rattle.psac_session.proofs.Told.{Told}
+use Rattle.psac_session.proofs.Turn.{Behind, Going, Over, cut_all, cut_whole, grown, line_then}
+
+-- what is answered to lines from a state on
+abbrev from_state : World → Step → State → Answer
+from_state w step start lines = replies_by w step lines start
+
+-- what is left of a script that is told
+abbrev rest_of : Option (List ℕ) → List ℕ
+rest_of None = []
+rest_of (Some xs) = xs
+
+is_script : (left left' : Option (List ℕ)) (bytes : List ℕ) → Consumes left left' bytes → IsScript left (bytes ++ rest_of left')
+is_script None left' bytes took = tt
+is_script (Some xs) None bytes took = absurd took
+is_script (Some xs) (Some ys) bytes took = took
+
+is_rest : (left : Option (List ℕ)) → IsScript left (rest_of left)
+is_rest None = tt
+is_rest (Some xs) = refl
+
+none_left : (left : Option (List ℕ)) → IsAtEnd left → rest_of left ≡ []
+none_left None at_end = refl
+none_left (Some xs) at_end = at_end
+
+whole_script : (left left' : Option (List ℕ)) (bytes : List ℕ) → Consumes left left' bytes → IsAtEnd left' → IsScript left bytes
+whole_script left left' bytes took at_end = rw (none_left left' at_end, append-nil bytes) at (is_script left left' bytes took)
+
+pub consumes_nil : (left : Option (List ℕ)) (bytes : List ℕ) → bytes ≡ [] → Consumes left left bytes
+consumes_nil None bytes none = tt
+consumes_nil (Some xs) bytes none = rw none refl
+
+-- nothing was written
+pub nothing : (answer : Answer) (left before : Option (List ℕ)) → AnsweredPart answer left before before
+nothing answer left before = record { script = rest_of left; is_script = is_rest left; written = (0, omega arith, Appended-nil before) }
+
+-- the whole is a part
+pub whole_part : (answer : Answer) (left before now : Option (List ℕ)) → Answered answer left before now → AnsweredPart answer left before now
+whole_part answer left before now all =
+    let text = answer (lines_of all.script) in
+    record {
+      script = all.script;
+      is_script = all.is_script;
+      written = (length text, omega arith, subst (λ (xs : List ℕ). Appended before now xs) (sym (take-length text)) all.written);
+    }
+
+module _ (w : World) (step : Step) (start : State) where
+  reported : (bytes more : List ℕ) (given : ℕ) (s : State) (before now : Option (List ℕ)) → (g : Going w step start bytes given s before now)
+      → replies_by w step (lines_of (bytes ++ more)) start ≡ g.done ++ replies_by w step (lines_of (drop given (bytes ++ more))) s
+  reported bytes more given s before now g =
+      ap (λ (ls : List (List ℕ)). replies_by w step ls start) (cut_all bytes more given g.lines g.within g.cut)
+      ∙ sym (g.rest (lines_of (drop given (bytes ++ more))))
+
+  -- where the lines that were given are answered
+  pub part_going : (bytes bytes' : List ℕ) (first left left' : Option (List ℕ)) (n n' given : ℕ) (s : State) (before now : Option (List ℕ))
+      → Grew bytes bytes' left left' n n' → Consumes first left' bytes' → Going w step start bytes given s before now
+      → AnsweredPart (from_state w step start) first before now
+  part_going bytes bytes' first left left' n n' given s before now grew took going =
+      let g = grown w step start bytes grew.got bytes' given s before now grew.bytes going in
+      let more = replies_by w step (lines_of (drop given (bytes' ++ rest_of left'))) s in
+      let whole = reported bytes' (rest_of left') given s before now g in
+      let same : g.done ≡ take (length g.done) (replies_by w step (lines_of (bytes' ++ rest_of left')) start) =
+      sym (ap (take (length g.done)) whole ∙ take-append_seam g.done more) in
+      record {
+        script = bytes' ++ rest_of left';
+        is_script = is_script first left' bytes' took;
+        written = (length g.done, omega (arith, ap length whole, length-append g.done more), subst (λ (xs : List ℕ). Appended before now xs) same g.written);
+      }
+
+  -- a line that was given is the next one of the script
+  next_of : (bytes : List ℕ) (left' : Option (List ℕ)) (given given' : ℕ) (ended' : Bool) (s : State) (before now : Option (List ℕ)) (text : List ℕ)
+      → (g : Going w step start bytes given s before now) → GivesLine bytes given given' ended' text → (ended' ≡ true → IsAtEnd left')
+      → (more : List (List ℕ)) × (lines_of (bytes ++ rest_of left') ≡ g.lines ++ text ∷ more)
+  next_of bytes left' given given' ended' s before now text g (inl whole) at_end = (
+    lines_of (drop given' (bytes ++ rest_of left')),
+    cut_all bytes (rest_of left') given g.lines g.within g.cut
+        ∙ ap (λ (ls : List (List ℕ)). g.lines ++ ls) (whole_is_next bytes (rest_of left') given given' text whole),
+  )
+  next_of bytes left' given given' ended' s before now text g (inr last) at_end = (
+    [],
+    rw (none_left left' (at_end last.0), append-nil bytes)
+        (cut_whole bytes given g.lines g.within g.cut ∙ ap (λ (ls : List (List ℕ)). g.lines ++ ls) (last_is_last bytes given given' text last.1)),
+  )
+
+  -- a first part of the reply to a line was written
+  pub part_wrote : (bytes bytes' : List ℕ) (first left left' : Option (List ℕ)) (n n' given given' : ℕ) (ended' : Bool) (s s' : State) (before now after : Option (List ℕ)) (text out : List ℕ)
+      → Grew bytes bytes' left left' n n' → Consumes first left' bytes' → (ended' ≡ true → IsAtEnd left') → GivesLine bytes' given given' ended' text
+      → Told w step s s' text out → AppendedPart now after out → Going w step start bytes given s before now → AnsweredPart (from_state w step start) first before after
+  part_wrote bytes bytes' first left left' n n' given given' ended' s s' before now after text out grew took at_end line told part going =
+      let g = grown w step start bytes grew.got bytes' given s before now grew.bytes going in
+      let next = next_of bytes' left' given given' ended' s before now text g line at_end in
+      let more = replies_by w step next.0 s' in
+      let report = replies_by w step (lines_of (bytes' ++ rest_of left')) start in
+      let whole : report ≡ g.done ++ (out ++ more) =
+      ap (λ (ls : List (List ℕ)). replies_by w step ls start) next.1 ∙ sym (g.rest (text ∷ next.0))
+      ∙ ap (λ (xs : List ℕ). g.done ++ xs) (line_then w step text out next.0 s s' told.other told.state told.text) in
+      let front : take (length g.done + part.0) report ≡ g.done ++ take part.0 out =
+      ap (take (length g.done + part.0)) whole ∙ take-append-add g.done (out ++ more) part.0
+      ∙ ap (λ (xs : List ℕ). g.done ++ xs) (take-append-le part.0 out more part.1) in
+      record {
+        script = bytes' ++ rest_of left';
+        is_script = is_script first left' bytes' took;
+        written = (
+          length g.done + part.0,
+          omega (arith, ap length whole, length-append g.done (out ++ more), length-append out more, part.1),
+          subst (λ (xs : List ℕ). Appended before after xs) (sym front) (Appended-append before now after g.done (take part.0 out) g.written part.2),
+        );
+      }
+
+  -- `quit` was given
+  pub quits : (bytes bytes' : List ℕ) (first left left' : Option (List ℕ)) (n n' given given' : ℕ) (ended' : Bool) (s : State) (before now : Option (List ℕ)) (text : List ℕ)
+      → Grew bytes bytes' left left' n n' → Consumes first left' bytes' → (ended' ≡ true → IsAtEnd left') → GivesLine bytes' given given' ended' text
+      → is_quit text ≡ true → Going w step start bytes given s before now → Answered (from_state w step start) first before now
+  quits bytes bytes' first left left' n n' given given' ended' s before now text grew took at_end line quit going =
+      let g = grown w step start bytes grew.got bytes' given s before now grew.bytes going in
+      let next = next_of bytes' left' given given' ended' s before now text g line at_end in
+      let all : g.done ≡ replies_by w step (lines_of (bytes' ++ rest_of left')) start =
+      sym (append-nil g.done) ∙ ap (λ (xs : List ℕ). g.done ++ xs) (sym (replies_quit w step text next.0 s quit)) ∙ g.rest (text ∷ next.0)
+      ∙ ap (λ (ls : List (List ℕ)). replies_by w step ls start) (sym next.1) in
+      record {
+        script = bytes' ++ rest_of left';
+        is_script = is_script first left' bytes' took;
+        written = subst (λ (xs : List ℕ). Appended before now xs) all g.written;
+      }
+
+  stops : (bytes : List ℕ) (left' : Option (List ℕ)) (given given' : ℕ) (ended' : Bool) (s : State) (before now : Option (List ℕ)) (text : List ℕ)
+      → (g : Going w step start bytes given s before now) → GivesLine bytes given given' ended' text → (ended' ≡ true → IsAtEnd left') → is_quit text ≡ true
+      → IsAtEnd left' ⊎ (list_any is_quit (lines_of bytes) ≡ true)
+  stops bytes left' given given' ended' s before now text g (inl whole) at_end quit =
+      let more = lines_of (drop given' (bytes ++ [])) in
+      let lines : lines_of (bytes ++ []) ≡ g.lines ++ text ∷ more =
+      cut_all bytes [] given g.lines g.within g.cut ∙ ap (λ (ls : List (List ℕ)). g.lines ++ ls) (whole_is_next bytes [] given given' text whole) in
+      let there : list_any is_quit (lines_of (bytes ++ [])) ≡ true =
+      ap (list_any is_quit) lines ∙ list_any-append is_quit g.lines (text ∷ more) ∙ rw (g.no_quit, quit) refl in
+      inr (rw (append-nil bytes) at there)
+  stops bytes left' given given' ended' s before now text g (inr last) at_end quit = inl (at_end last.0)
+
+  pub quits_read : (bytes bytes' : List ℕ) (first left left' : Option (List ℕ)) (n n' m m' given given' : ℕ) (ended' : Bool) (s : State) (before now : Option (List ℕ)) (text : List ℕ)
+      → Grew bytes bytes' left left' n n' → Consumes first left' bytes' → m' ≡ m + length bytes' → (ended' ≡ true → IsAtEnd left') → GivesLine bytes' given given' ended' text
+      → is_quit text ≡ true → Going w step start bytes given s before now → ReadOut first left' m m'
+  quits_read bytes bytes' first left left' n n' m m' given given' ended' s before now text grew took count at_end line quit going =
+      let g = grown w step start bytes grew.got bytes' given s before now grew.bytes going in
+      record { bytes = bytes'; took = took; count = count; stop = stops bytes' left' given given' ended' s before now text g line at_end quit }
+
+  -- no line was left
+  pub ends : (bytes bytes' : List ℕ) (first left left' : Option (List ℕ)) (n n' given : ℕ) (ended : Bool) (s : State) (before now : Option (List ℕ))
+      → Grew bytes bytes' left left' n n' → Consumes first left' bytes' → (ended ≡ true → bytes' ≡ bytes) → given ≡ length bytes' → IsAtEnd left'
+      → Going w step start bytes given s before now ⊎ Over w step start bytes given ended before now → Answered (from_state w step start) first before now
+  ends bytes bytes' first left left' n n' given ended s before now grew took still all at_end (inl going) =
+      let g = grown w step start bytes grew.got bytes' given s before now grew.bytes going in
+      let none : drop given bytes' ≡ [] = drop_all given bytes' (omega (arith, all)) in
+      let lines : lines_of bytes' ≡ g.lines ++ [] = cut_whole bytes' given g.lines g.within g.cut ∙ ap (λ (xs : List ℕ). g.lines ++ lines_of xs) none in
+      let report : g.done ≡ replies_by w step (lines_of bytes') start =
+      sym (append-nil g.done) ∙ g.rest [] ∙ ap (λ (ls : List (List ℕ)). replies_by w step ls start) (sym lines) in
+      record {
+        script = bytes';
+        is_script = whole_script first left' bytes' took at_end;
+        written = subst (λ (xs : List ℕ). Appended before now xs) report g.written;
+      }
+  ends bytes bytes' first left left' n n' given ended s before now grew took still all at_end (inr over) =
+      record {
+        script = bytes';
+        is_script = whole_script first left' bytes' took at_end;
+        written = rw (still over.at_end) over.written;
+      }
+
+  behind_told : (bytes : List ℕ) (given : ℕ) → Behind bytes given → (given ≡ 0) ⊎ (slice_index bytes (given - 1) ≡ 10)
+  behind_told bytes given (inl zero) = inl zero
+  behind_told bytes given (inr some) = inr some.1
+
+  answered_to : (bytes : List ℕ) (far given : ℕ) (s : State) (before now : Option (List ℕ)) → Going w step start bytes given s before now → NoFeed bytes given far
+      → AnsweredTo (from_state w step start) bytes far before now
+  answered_to bytes far given s before now g none =
+      let lines : lines_of (take given bytes) ≡ g.lines = rw (append-nil (take given bytes), append-nil g.lines) at (g.cut []) in
+      let report : g.done ≡ replies_by w step (lines_of (take given bytes)) start =
+      sym (append-nil g.done) ∙ g.rest [] ∙ ap (λ (ls : List (List ℕ)). replies_by w step ls start) (append-nil g.lines ∙ sym lines) in
+      record {
+        upto = given;
+        within = g.within;
+        behind = behind_told bytes given g.behind;
+        none = none;
+        no_quit = rw lines g.no_quit;
+        written = subst (λ (xs : List ℕ). Appended before now xs) report g.written;
+      }
+
+  -- a read failed
+  pub breaks : (bytes bytes' : List ℕ) (first left left' : Option (List ℕ)) (n n' given : ℕ) (s : State) (before now : Option (List ℕ))
+      → Grew bytes bytes' left left' n n' → Consumes first left' bytes' → NoFeed bytes' given (length bytes') → Going w step start bytes given s before now
+      → AnsweredWhole (from_state w step start) first left' before now
+  breaks bytes bytes' first left left' n n' given s before now grew took none going =
+      let g = grown w step start bytes grew.got bytes' given s before now grew.bytes going in
+      record { bytes = bytes'; took = took; answered = answered_to bytes' (length bytes') given s before now g none }
+
+  -- too much was read
+  pub too_long : (bytes bytes' : List ℕ) (first left left' : Option (List ℕ)) (n n' given : ℕ) (s : State) (before now : Option (List ℕ))
+      → Grew bytes bytes' left left' n n' → Consumes first left' bytes' → length bytes' ≡ 16777217 → NoFeedBeforePiece bytes' given → Going w step start bytes given s before now
+      → AnsweredLong (from_state w step start) first left' before now
+  too_long bytes bytes' first left left' n n' given s before now grew took long none going =
+      let g = grown w step start bytes grew.got bytes' given s before now grew.bytes going in
+      let near : NoFeed bytes' given 16773121 = λ k low high feed. none.none k low (omega (arith, none.piece, long)) feed in
+      record { bytes = bytes'; took = took; count = long; answered = answered_to bytes' 16773121 given s before now g near }

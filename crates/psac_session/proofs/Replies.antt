@@ -1,0 +1,29 @@
+-- The replies to one more line.
+use Rattle.std.proofs.Common.{◌≡◌, ◌∙◌, ℕ, Bool, true, false, List, [], ◌∷◌, ◌++◌, Option, Some, None, refl, ap}
+use Rattle.psac_model.specs.Fresh.{World}
+use Rattle.psac_report.specs.Script.{Command, Quit, command_of}
+use Rattle.psac_report.specs.Session.{State, Reply, reply_text}
+use Rattle.psac_report.specs.Report.{written_then}
+use Rattle.psac_report.specs.First.{Step, answered_by, is_quit, quits, replies_by}
+
+-- the text of a reply
+abbrev pub text_of : World → State × Reply → List ℕ
+text_of w after = reply_text w after.0.texts after.1
+
+quitting : (w : World) (step : Step) (more : State → List ℕ) (s : State) (command : Option Command) → quits command ≡ true → answered_by w step more s command ≡ []
+quitting w step more s (Some Quit) quit = refl
+quitting w step more s _ quit = absurd (cc)
+
+going : (w : World) (step : Step) (more : State → List ℕ) (s : State) (command : Option Command) → quits command ≡ false
+    → answered_by w step more s command ≡ text_of w (step s command) ++ more (step s command).0
+going w step more s (Some Quit) other = absurd (cc)
+going w step more s _ other = refl
+
+-- nothing is answered from `quit` on
+pub replies_quit : (w : World) (step : Step) (line : List ℕ) (more : List (List ℕ)) (s : State) → is_quit line ≡ true → replies_by w step (line ∷ more) s ≡ []
+replies_quit w step line more s quit = quitting w step (replies_by w step more) s (command_of line) quit
+
+-- the reply to a line, and then the replies to the others
+pub replies_next : (w : World) (step : Step) (line : List ℕ) (more : List (List ℕ)) (s : State) → is_quit line ≡ false
+    → replies_by w step (line ∷ more) s ≡ text_of w (step s (command_of line)) ++ replies_by w step more (step s (command_of line)).0
+replies_next w step line more s other = going w step (replies_by w step more) s (command_of line) other

@@ -1,0 +1,230 @@
+-- One turn of a session.
+use Rattle.std.proofs.Common.{◌≡◌, ◌∙◌, ℕ, suc, ◌≤◌, ◌<◌, ◌+◌, ◌-◌, ◌||◌, Bool, true, false, List, [], ◌∷◌, ◌++◌, ◌⊎◌, inl, inr, Option, Some, None, length, take, drop, slice_index, get_or, refl, ap, sym, subst, arith, append_assoc, length-append, get_or-take}
+use Rattle.std.specs.List.{list_any, slice_range}
+use Rattle.std.specs.Io.KnownBytes.{Consumes, IsAtEnd}
+use Rattle.std.proofs.lemmas.List.{append-nil, drop_all, drop_at, drop-take, take-append-le, take-append-drop, take-take, length-take-le}
+use Rattle.std.proofs.lemmas.List.Folds.{list_any-append}
+use Rattle.std.proofs.Math.Seq.{take-append_seam, take-append-add, take-length}
+use Rattle.std.proofs.Math.ListN.{get_or-append}
+use Rattle.psac_base.specs.Feeds.{NoFeed, lines_of, line_text}
+use Rattle.psac_base.specs.Lines.{EndsAtEnd, GivesLast, GivesLine, GivesWhole, Grew, IsEnd, NoFeedBeforePiece}
+use Rattle.psac_base.specs.Outside.{Appended, AppendedPart}
+use Rattle.psac_base.proofs.Splits.{last_is_last, whole_is_next}
+use Rattle.psac_base.proofs.Wrote.{Appended-append, Appended-nil}
+use Rattle.psac_model.specs.Fresh.{World}
+use Rattle.psac_report.specs.Script.{command_of}
+use Rattle.psac_report.specs.Session.{State}
+use Rattle.psac_report.specs.First.{Step, is_quit, replies_by}
+use Rattle.psac_session.specs.Answered.{Answer, Answered, AnsweredLong, AnsweredPart, AnsweredTo, AnsweredWhole, IsScript, ReadOut}
+use Rattle.psac_session.proofs.Replies.{replies_next, replies_quit, text_of}
+
+-- no byte, or the byte before this place ends a line
+abbrev pub Behind : List ℕ → ℕ → Type 0
+Behind bytes given = (given ≡ 0) ⊎ ((0 < given) × (slice_index bytes (given - 1) ≡ 10))
+
+-- the lines that were given are answered, and the state is the one behind them, whatever comes behind what was read
+pub record Going (w : World) (step : Step) (start : State) (bytes : List ℕ) (given : ℕ) (s : State) (before now : Option (List ℕ)) : Type 0 where
+  pub lines : List (List ℕ)
+  pub done : List ℕ
+  pub written : Appended before now done
+  pub rest : (more : List (List ℕ)) → done ++ replies_by w step more s ≡ replies_by w step (lines ++ more) start
+  pub cut : (more : List ℕ) → lines_of (take given bytes ++ more) ≡ lines ++ lines_of more
+  pub no_quit : list_any is_quit lines ≡ false
+  pub within : given ≤ length bytes
+  pub behind : Behind bytes given
+
+-- the last line was answered too
+pub record Over (w : World) (step : Step) (start : State) (bytes : List ℕ) (given : ℕ) (ended : Bool) (before now : Option (List ℕ)) : Type 0 where
+  pub written : Appended before now (replies_by w step (lines_of bytes) start)
+  pub all : given ≡ length bytes
+  pub at_end : ended ≡ true
+
+-- nothing was read
+pub begins : (w : World) (step : Step) (start : State) (bytes : List ℕ) (given : ℕ) (before : Option (List ℕ)) → bytes ≡ [] → given ≡ 0
+    → Going w step start bytes given start before before
+begins w step start bytes given before none zero = record {
+  lines = [];
+  done = [];
+  written = Appended-nil before;
+  rest = λ more. refl;
+  cut = λ more. rw zero refl;
+  no_quit = refl;
+  within = omega (arith, zero);
+  behind = inl zero;
+}
+
+behind_grown : (bytes got : List ℕ) (given : ℕ) → given ≤ length bytes → Behind bytes given → Behind (bytes ++ got) given
+behind_grown bytes got given within (inl zero) = inl zero
+behind_grown bytes got given within (inr (some, feed)) =
+    let low : given - 1 < length bytes = omega arith in
+    inr (some, get_or-append bytes got 0 (given - 1) low ∙ feed)
+
+-- more was read
+pub grown : (w : World) (step : Step) (start : State) (bytes got bytes' : List ℕ) (given : ℕ) (s : State) (before now : Option (List ℕ)) → bytes' ≡ bytes ++ got
+    → Going w step start bytes given s before now → Going w step start bytes' given s before now
+grown w step start bytes got bytes' given s before now grew going =
+    let front : take given bytes' ≡ take given bytes = rw grew (take-append-le given bytes got going.within) in
+    record {
+      lines = going.lines;
+      done = going.done;
+      written = going.written;
+      rest = going.rest;
+      cut = λ more. rw front (going.cut more);
+      no_quit = going.no_quit;
+      within = rw grew (omega (arith, going.within, length-append bytes got));
+      behind = rw grew (behind_grown bytes got given going.within going.behind);
+    }
+
+-- the lines that were given come first, whatever follows
+pub cut_all : (bytes more : List ℕ) (given : ℕ) (lines : List (List ℕ)) → given ≤ length bytes
+    → ((more : List ℕ) → lines_of (take given bytes ++ more) ≡ lines ++ lines_of more)
+    → lines_of (bytes ++ more) ≡ lines ++ lines_of (drop given (bytes ++ more))
+cut_all bytes more given lines within cut =
+    let front : take given (bytes ++ more) ≡ take given bytes = take-append-le given bytes more within in
+    let whole : take given bytes ++ drop given (bytes ++ more) ≡ bytes ++ more =
+    ap (λ (xs : List ℕ). xs ++ drop given (bytes ++ more)) (sym front) ∙ take-append-drop given (bytes ++ more) in
+    ap lines_of (sym whole) ∙ cut (drop given (bytes ++ more))
+
+pub cut_whole : (bytes : List ℕ) (given : ℕ) (lines : List (List ℕ)) → given ≤ length bytes
+    → ((more : List ℕ) → lines_of (take given bytes ++ more) ≡ lines ++ lines_of more)
+    → lines_of bytes ≡ lines ++ lines_of (drop given bytes)
+cut_whole bytes given lines within cut = rw (append-nil bytes) at (cut_all bytes [] given lines within cut)
+
+-- a whole line stands in the front that ends with it
+whole_in_front : (bytes : List ℕ) (from to : ℕ) (text : List ℕ) → GivesWhole bytes from to text → GivesWhole (take to bytes) from to text
+whole_in_front bytes from to text whole =
+    let e = whole.is_end in
+    let size : length (take to bytes) ≡ to = length-take-le to bytes (omega (arith, whole.next, e.high)) in
+    let at : to ≡ from + (to - from) = omega (arith, whole.next, e.low) in
+    let behind : drop from (take to bytes) ≡ take (to - from) (drop from bytes) =
+    ap (λ (n : ℕ). drop from (take n bytes)) at ∙ drop-take from (to - from) bytes in
+    let same : slice_range (take to bytes) from whole.stop ≡ slice_range bytes from whole.stop =
+    ap (take (whole.stop - from)) behind ∙ take-take (whole.stop - from) (to - from) (drop from bytes) (omega (arith, whole.next, e.low)) in
+    record {
+      stop = whole.stop;
+      is_end = record {
+        low = e.low;
+        high = omega (arith, size, whole.next);
+        feed = get_or-take to bytes whole.stop 0 (omega (arith, whole.next)) ∙ e.feed;
+        first = λ k low high feed. e.first k low high (sym (get_or-take to bytes k 0 (omega (arith, whole.next))) ∙ feed);
+      };
+      next = whole.next;
+      is_text = whole.is_text ∙ ap line_text (sym same);
+    }
+
+cut_next : (bytes text : List ℕ) (from to : ℕ) (lines : List (List ℕ)) → from ≤ length bytes → GivesWhole bytes from to text
+    → ((more : List ℕ) → lines_of (take from bytes ++ more) ≡ lines ++ lines_of more)
+    → (more : List ℕ) → lines_of (take to bytes ++ more) ≡ (lines ++ text ∷ []) ++ lines_of more
+cut_next bytes text from to lines within whole cut more =
+    let e = whole.is_end in
+    let top = take to bytes in
+    let size : length top ≡ to = length-take-le to bytes (omega (arith, whole.next, e.high)) in
+    let front : take from top ≡ take from bytes = take-take from to bytes (omega (arith, whole.next, e.low)) in
+    let these : lines_of (top ++ more) ≡ lines ++ lines_of (drop from (top ++ more)) =
+    cut_all top more from lines (omega (arith, size, whole.next, e.low)) (λ ys. rw front (cut ys)) in
+    let behind : drop to (top ++ more) ≡ more = drop_at top more to size in
+    these ∙ ap (λ (ls : List (List ℕ)). lines ++ ls) (whole_is_next top more from to text (whole_in_front bytes from to text whole) ∙ ap (λ (ys : List ℕ). text ∷ lines_of ys) behind)
+    ∙ sym (append_assoc lines (text ∷ []) (lines_of more))
+
+behind_whole : (bytes : List ℕ) (from to : ℕ) (text : List ℕ) → GivesWhole bytes from to text → Behind bytes to
+behind_whole bytes from to text whole =
+    let some : 0 < to = omega (arith, whole.next) in
+    let at : to - 1 ≡ whole.stop = omega (arith, whole.next) in
+    inr (some, rw at whole.is_end.feed)
+
+-- the replies to a line that isn't `quit`, and to those behind it
+pub line_then : (w : World) (step : Step) (text out : List ℕ) (more : List (List ℕ)) (s s' : State) → is_quit text ≡ false → s' ≡ (step s (command_of text)).0
+    → out ≡ text_of w (step s (command_of text)) → replies_by w step (text ∷ more) s ≡ out ++ replies_by w step more s'
+line_then w step text out more s s' other state_is out_is = replies_next w step text more s other ∙ rw (out_is, state_is) refl
+
+-- a whole line was answered
+went_on : (w : World) (step : Step) (start : State) (bytes text out : List ℕ) (from to : ℕ) (s s' : State) (before now after : Option (List ℕ))
+    → is_quit text ≡ false → s' ≡ (step s (command_of text)).0 → out ≡ text_of w (step s (command_of text)) → GivesWhole bytes from to text
+    → Going w step start bytes from s before now → Appended now after out → Going w step start bytes to s' before after
+went_on w step start bytes text out from to s s' before now after other state_is out_is whole going wrote = record {
+  lines = going.lines ++ text ∷ [];
+  done = going.done ++ out;
+  written = Appended-append before now after going.done out going.written wrote;
+  rest = λ more.
+      append_assoc going.done out (replies_by w step more s')
+      ∙ ap (λ (xs : List ℕ). going.done ++ xs) (sym (line_then w step text out more s s' other state_is out_is)) ∙ going.rest (text ∷ more)
+      ∙ ap (λ (ls : List (List ℕ)). replies_by w step ls start) (sym (append_assoc going.lines (text ∷ []) more));
+  cut = cut_next bytes text from to going.lines going.within whole going.cut;
+  no_quit = list_any-append is_quit going.lines (text ∷ []) ∙ rw (going.no_quit, other) refl;
+  within = omega (arith, whole.next, whole.is_end.high);
+  behind = behind_whole bytes from to text whole;
+}
+
+-- the last line was answered
+finished : (w : World) (step : Step) (start : State) (bytes text out : List ℕ) (from to : ℕ) (ended : Bool) (s s' : State) (before now after : Option (List ℕ))
+    → is_quit text ≡ false → s' ≡ (step s (command_of text)).0 → out ≡ text_of w (step s (command_of text)) → ended ≡ true → GivesLast bytes from to text
+    → Going w step start bytes from s before now → Appended now after out → Over w step start bytes to ended before after
+finished w step start bytes text out from to ended s s' before now after other state_is out_is at_end last going wrote =
+    let all : lines_of bytes ≡ going.lines ++ text ∷ [] =
+    cut_whole bytes from going.lines going.within going.cut ∙ ap (λ (ls : List (List ℕ)). going.lines ++ ls) (last_is_last bytes from to text last) in
+    let reply : replies_by w step (text ∷ []) s ≡ out = line_then w step text out [] s s' other state_is out_is ∙ append-nil out in
+    let report : going.done ++ out ≡ replies_by w step (lines_of bytes) start =
+    ap (λ (xs : List ℕ). going.done ++ xs) (sym reply) ∙ going.rest (text ∷ []) ∙ ap (λ (ls : List (List ℕ)). replies_by w step ls start) (sym all) in
+    record {
+      written = subst (λ (xs : List ℕ). Appended before after xs) report (Appended-append before now after going.done out going.written wrote);
+      all = last.next;
+      at_end = at_end;
+    }
+
+-- a line was given and answered
+pub turn : (w : World) (step : Step) (start : State) (bytes bytes' : List ℕ) (left left' : Option (List ℕ)) (n n' given given' : ℕ) (ended ended' : Bool) (before now after : Option (List ℕ)) (text out : List ℕ) (s s' : State)
+    → Grew bytes bytes' left left' n n' → (ended ≡ true → bytes' ≡ bytes) → GivesLine bytes' given given' ended' text
+    → is_quit text ≡ false → s' ≡ (step s (command_of text)).0 → out ≡ text_of w (step s (command_of text)) → Appended now after out
+    → Going w step start bytes given s before now ⊎ Over w step start bytes given ended before now
+    → Going w step start bytes' given' s' before after ⊎ Over w step start bytes' given' ended' before after
+turn w step start bytes bytes' left left' n n' given given' ended ended' before now after text out s s' grew still (inl whole) other state_is out_is wrote (inl going) =
+    inl (went_on w step start bytes' text out given given' s s' before now after other state_is out_is whole
+    (grown w step start bytes grew.got bytes' given s before now grew.bytes going) wrote)
+turn w step start bytes bytes' left left' n n' given given' ended ended' before now after text out s s' grew still (inr last) other state_is out_is wrote (inl going) =
+    inr (finished w step start bytes' text out given given' ended' s s' before now after other state_is out_is last.0 last.1
+    (grown w step start bytes grew.got bytes' given s before now grew.bytes going) wrote)
+turn w step start bytes bytes' left left' n n' given given' ended ended' before now after text out s s' grew still (inl whole) other state_is out_is wrote (inr over) =
+    absurd (omega (arith, ap length (still over.at_end), over.all, whole.is_end.low, whole.is_end.high))
+turn w step start bytes bytes' left left' n n' given given' ended ended' before now after text out s s' grew still (inr last) other state_is out_is wrote (inr over) =
+    absurd (omega (arith, ap length (still over.at_end), over.all, last.1.some))
+
+-- where a line was given, the last one wasn't answered before
+pub not_over : (w : World) (step : Step) (start : State) (bytes bytes' : List ℕ) (given given' : ℕ) (ended ended' : Bool) (before now : Option (List ℕ)) (text : List ℕ)
+    → (ended ≡ true → bytes' ≡ bytes) → GivesLine bytes' given given' ended' text → Over w step start bytes given ended before now → ⊥
+not_over w step start bytes bytes' given given' ended ended' before now text still (inl whole) over =
+    omega (arith, ap length (still over.at_end), over.all, whole.is_end.low, whole.is_end.high)
+not_over w step start bytes bytes' given given' ended ended' before now text still (inr last) over =
+    omega (arith, ap length (still over.at_end), over.all, last.1.some)
+
+-- nor where there was no answer to whether there is one
+pub not_ended : (w : World) (step : Step) (start : State) (bytes bytes' : List ℕ) (left' : Option (List ℕ)) (given : ℕ) (ended ended' : Bool) (before now : Option (List ℕ))
+    → (ended ≡ true → bytes' ≡ bytes) → EndsAtEnd ended ended' left' → ((ended' ≡ true) × (given ≡ length bytes') → ⊥) → Over w step start bytes given ended before now → ⊥
+not_ended w step start bytes bytes' left' given ended ended' before now still (inl same) open_ over =
+    open_ (same ∙ over.at_end, over.all ∙ sym (ap length (still over.at_end)))
+not_ended w step start bytes bytes' left' given ended ended' before now still (inr noted) open_ over =
+    open_ (noted.0, over.all ∙ sym (ap length (still over.at_end)))
+
+pub still_going : (A B : Type 0) → (B → ⊥) → A ⊎ B → A
+still_going A B none (inl a) = a
+still_going A B none (inr b) = absurd (none b)
+
+-- a noted end is the source's
+pub end_noted : (ended ended' : Bool) (left left' : Option (List ℕ)) → EndsAtEnd ended ended' left' → (ended ≡ true → IsAtEnd left) → (ended ≡ true → left' ≡ left)
+    → ended' ≡ true → IsAtEnd left'
+end_noted ended ended' left left' (inr noted) before same now = noted.1
+end_noted ended ended' left left' (inl still) before same now =
+    let was : ended ≡ true = sym still ∙ now in
+    rw (same was) (before was)
+
+Consumes-more : (first left left' : Option (List ℕ)) (xs ys : List ℕ) → Consumes first left xs → Consumes left left' ys → Consumes first left' (xs ++ ys)
+Consumes-more None left left' xs ys before after = tt
+Consumes-more (Some a) None left' xs ys before after = absurd before
+Consumes-more (Some a) (Some b) None xs ys before after = absurd after
+Consumes-more (Some a) (Some b) (Some c) xs ys before after = rw (append_assoc xs ys c, ← after) before
+
+pub took_all : (bytes bytes' : List ℕ) (first left left' : Option (List ℕ)) (n n' : ℕ) → Grew bytes bytes' left left' n n'
+    → Consumes first left bytes → Consumes first left' bytes'
+took_all bytes bytes' first left left' n n' grew took = rw grew.bytes (Consumes-more first left left' bytes grew.got took grew.source)
+
+pub counted : (bytes bytes' : List ℕ) (left left' : Option (List ℕ)) (n0 n n' : ℕ) → Grew bytes bytes' left left' n n' → n ≡ n0 + length bytes → n' ≡ n0 + length bytes'
+counted bytes bytes' left left' n0 n n' grew count = omega (arith, grew.count, count, ap length grew.bytes, length-append bytes grew.got)

@@ -1,0 +1,291 @@
+use Rattle.std.proofs.Common.{◌≡◌, ◌⊎◌, ◌≤◌, ◌<◌, ◌+◌, ◌-◌, ◌++◌, ◌∷◌, [], List, ℕ, Option, Some, None, length, arith, rules, inl, inr, sym, ◌∙◌, ap, refl, subst, true, false, OnErr, OnOk}
+use Rattle.std.specs.Io.KnownBytes.{Consumes, IsAtEnd}
+use Rattle.psac_base.specs.Causes.{Rose}
+use Rattle.psac_base.specs.Feeds.{NoFeed}
+use Rattle.psac_base.specs.Lines.{GivesLine, NoFeedBeforePiece, bytes_of, given_of, has_ended, is_live}
+use Rattle.psac_base.specs.Outside.{Appended, AppendedPart}
+use Rattle.psac_inputs.specs.Batch.{Batch, GoesInto, empty_batch}
+use Rattle.psac_report.specs.First.{first_step, is_quit}
+use Rattle.psac_engine.specs.Engine.{caps_in, commits_in, grid_in, world_in}
+use Rattle.psac_session.specs.declared.desk.Carried.TheVariants as carried
+use Rattle.psac_session.specs.Answered.{Answered, answer_of}
+use Rattle.psac_session.specs.State.{opening, state_in, state_with}
+use Rattle.psac_session.proofs.Told.{Told, given_more, on_err, on_ok, rose_since, smaller, told, told_quit}
+use Rattle.psac_session.proofs.Turn.{Going, Over, begins, counted, end_noted, not_ended, not_over, still_going, took_all, turn}
+use Rattle.psac_session.proofs.Ended.{breaks, consumes_nil, ends, nothing, part_going, part_wrote, quits, quits_read, too_long, whole_part}
+use Rattle.psac_session.proofs.turns.session.Given.{Over as Types}
+use Rattle.psac_session.proofs.turns.session.Goals as goal
+
+pub returns-in_default-clause-part : goal.returns-in_default-clause-part
+returns-in_default-clause-part g c = nothing _ _ _
+
+pub returns-in_default-new-clause-part : goal.returns-in_default-new-clause-part
+returns-in_default-new-clause-part g c = nothing _ _ _
+
+pub turns-init : goal.turns-init
+turns-init g c =
+    let e = c.args.engine.now in
+    let w = world_in e in
+    let step = first_step w (caps_in e) in
+    let start = opening e c.args.texts.now in
+    let held = g.K.Sink.held c.args.out.now in
+    let bytes = bytes_of c.in-Ok.lines in
+    let given = given_of c.in-Ok.lines in
+    record {
+      live = c.in-Ok.ensures.live;
+      state = inl
+          (subst (λ (b : Batch). Going w step start bytes given (state_with e b c.args.texts.now) held held) (sym c.in-Ok-new.ensures.empty)
+          (begins w step start bytes given held c.in-Ok.ensures.bytes c.in-Ok.ensures.given));
+      source = consumes_nil _ bytes c.in-Ok.ensures.bytes;
+      count = omega (arith, ap length c.in-Ok.ensures.bytes);
+      at_end = λ ended. absurd (let bad : false ≡ true = sym c.in-Ok.ensures.ended ∙ ended in cc);
+      later = omega arith;
+      later_out = omega arith;
+      few = omega arith;
+      goes = c.in-Ok-new.ensures.goes;
+      world = refl;
+      caps = refl;
+    }
+
+pub returns-then-is_err-clause-part : goal.returns-then-is_err-clause-part
+returns-then-is_err-clause-part g c =
+    let e = c.args.engine.now in
+    let w = world_in e in
+    let step = first_step w (caps_in e) in
+    let start = opening e c.args.texts.now in
+    let i = c.turns.invariant in
+    let n = c.in-Ok-true.ensures in
+    let took = took_all _ _ _ _ _ _ _ n.grew i.source in
+    let line = n.line (search rules) in
+    let at_end = end_noted _ _ _ _ n.ended i.at_end (λ over. ap g.S.Source.left (n.still over).0) in
+    let going = still_going _ _ (not_over w step start _ _ _ _ _ _ _ _ _ (λ over. (n.still over).1) line) i.state in
+    let these = c.next_line.new.line.items in
+    let s = state_in c.turns.engine c.turns.desk c.turns.texts in
+    let s' = state_in c.one_line.new.engine c.one_line.new.self c.one_line.new.texts in
+    let reply = rw c.in-Ok-Reply.field-0-is at c.in-Ok-Reply.ensures.carried in
+    let told_ = told (world_in c.turns.engine) w (caps_in c.turns.engine) (caps_in e) s s' c.deref.result.now these (carried.Reply c.in-Ok-Reply.text) i.world i.caps c.deref.ensures.value reply refl in
+    let part : AppendedPart (g.K.Sink.held c.turns.out) (g.K.Sink.held c.write_whole.new.out) c.in-Ok-Reply.text.items =
+    rw c.deref-in-Ok-Reply.ensures.value at (on_err c.write_whole.result (sym c.is_err.ensures.value ∙ c.if-is_err.true) c.write_whole.ensures.part) in
+    part_wrote w step start _ _ _ _ _ _ _ _ _ _ s s' _ _ _ these c.in-Ok-Reply.text.items n.grew took at_end line told_ part going
+
+pub returns-then-is_err-clause-sink : goal.returns-then-is_err-clause-sink
+returns-then-is_err-clause-sink g c = λ _.
+    let rose : Rose (g.K.Sink.faults c.turns.out) (g.K.Sink.faults c.write_whole.new.out) =
+    on_err c.write_whole.result (sym c.is_err.ensures.value ∙ c.if-is_err.true) c.write_whole.ensures.cause.failed in
+    rose_since _ _ _ c.turns.invariant.later_out rose
+
+pub turns-smaller : goal.turns-smaller
+turns-smaller g c =
+    let n = c.in-Ok-true.ensures in
+    let line = n.line (search rules) in
+    let live : is_live c.next_line.new.self ≡ true = search rules in
+    let short : length (bytes_of c.next_line.new.self) < 16777217 =
+    omega (arith, c.next_line.new.self.short live, c.next_line.new.self.bytes.ok) in
+    smaller _ _ _ _ _ line short
+
+pub turns-preserved : goal.turns-preserved
+turns-preserved g c =
+    let e = c.args.engine.now in
+    let w = world_in e in
+    let step = first_step w (caps_in e) in
+    let start = opening e c.args.texts.now in
+    let i = c.turns.invariant in
+    let n = c.in-Ok-true.ensures in
+    let took = took_all _ _ _ _ _ _ _ n.grew i.source in
+    let line = n.line (search rules) in
+    let these = c.next_line.new.line.items in
+    let s = state_in c.turns.engine c.turns.desk c.turns.texts in
+    let s' = state_in c.one_line.new.engine c.one_line.new.self c.one_line.new.texts in
+    let reply = rw c.in-Ok-Reply.field-0-is at c.in-Ok-Reply.ensures.carried in
+    let told_ = told (world_in c.turns.engine) w (caps_in c.turns.engine) (caps_in e) s s' c.deref.result.now these (carried.Reply c.in-Ok-Reply.text) i.world i.caps c.deref.ensures.value reply refl in
+    let wrote : Appended (g.K.Sink.held c.turns.out) (g.K.Sink.held c.write_whole.new.out) c.in-Ok-Reply.text.items =
+    rw c.deref-in-Ok-Reply.ensures.value at (on_ok c.write_whole.result (sym c.is_err.ensures.value ∙ c.if-is_err.false) c.write_whole.ensures.ok) in
+    let more = given_more _ _ _ _ _ line in
+    record {
+      live = search rules;
+      state = turn w step start _ _ _ _ _ _ _ _ _ _ _ _ _ these c.in-Ok-Reply.text.items s s' n.grew (λ over. (n.still over).1) line told_.other told_.state told_.text wrote i.state;
+      source = took;
+      count = counted _ _ _ _ _ _ _ n.grew i.count;
+      at_end = end_noted _ _ _ _ n.ended i.at_end (λ over. ap g.S.Source.left (n.still over).0);
+      later = omega (arith, n.later, i.later);
+      later_out = omega (arith, c.write_whole.ensures.cause.later, i.later_out);
+      few = omega (arith, i.few, c.one_line.ensures.commits, more);
+      goes = c.in-Ok-Reply.ensures.goes;
+      world = c.one_line.ensures.world ∙ i.world;
+      caps = c.one_line.ensures.caps ∙ i.caps;
+    }
+
+pub returns-in-Ok-Quit-clause-done : goal.returns-in-Ok-Quit-clause-done
+returns-in-Ok-Quit-clause-done g c = λ _.
+    let e = c.args.engine.now in
+    let w = world_in e in
+    let step = first_step w (caps_in e) in
+    let start = opening e c.args.texts.now in
+    let i = c.turns.invariant in
+    let n = c.in-Ok-true.ensures in
+    let took = took_all _ _ _ _ _ _ _ n.grew i.source in
+    let line = n.line (search rules) in
+    let at_end = end_noted _ _ _ _ n.ended i.at_end (λ over. ap g.S.Source.left (n.still over).0) in
+    let going = still_going _ _ (not_over w step start _ _ _ _ _ _ _ _ _ (λ over. (n.still over).1) line) i.state in
+    let these = c.next_line.new.line.items in
+    let s = state_in c.turns.engine c.turns.desk c.turns.texts in
+    let s' = state_in c.one_line.new.engine c.one_line.new.self c.one_line.new.texts in
+    let carried_ = rw c.in-Ok-Quit.field-0-is at c.in-Ok-Quit.ensures.carried in
+    let quit : is_quit these ≡ true = told_quit (world_in c.turns.engine) (caps_in c.turns.engine) s s' c.deref.result.now these carried.Quit c.deref.ensures.value carried_ refl in
+    quits w step start _ _ _ _ _ _ _ _ _ _ s _ _ these n.grew took at_end line quit going
+
+pub returns-in-Ok-Quit-clause-read : goal.returns-in-Ok-Quit-clause-read
+returns-in-Ok-Quit-clause-read g c = λ _.
+    let e = c.args.engine.now in
+    let w = world_in e in
+    let step = first_step w (caps_in e) in
+    let start = opening e c.args.texts.now in
+    let i = c.turns.invariant in
+    let n = c.in-Ok-true.ensures in
+    let took = took_all _ _ _ _ _ _ _ n.grew i.source in
+    let line = n.line (search rules) in
+    let at_end = end_noted _ _ _ _ n.ended i.at_end (λ over. ap g.S.Source.left (n.still over).0) in
+    let going = still_going _ _ (not_over w step start _ _ _ _ _ _ _ _ _ (λ over. (n.still over).1) line) i.state in
+    let these = c.next_line.new.line.items in
+    let s = state_in c.turns.engine c.turns.desk c.turns.texts in
+    let s' = state_in c.one_line.new.engine c.one_line.new.self c.one_line.new.texts in
+    let carried_ = rw c.in-Ok-Quit.field-0-is at c.in-Ok-Quit.ensures.carried in
+    let quit : is_quit these ≡ true = told_quit (world_in c.turns.engine) (caps_in c.turns.engine) s s' c.deref.result.now these carried.Quit c.deref.ensures.value carried_ refl in
+    quits_read w step start _ _ _ _ _ _ _ _ _ _ _ _ s _ _ these n.grew took (counted _ _ _ _ _ _ _ n.grew i.count) at_end line quit going
+
+pub returns-in-Ok-Quit-clause-part : goal.returns-in-Ok-Quit-clause-part
+returns-in-Ok-Quit-clause-part g c =
+    let e = c.args.engine.now in
+    let w = world_in e in
+    let step = first_step w (caps_in e) in
+    let start = opening e c.args.texts.now in
+    let i = c.turns.invariant in
+    let n = c.in-Ok-true.ensures in
+    let took = took_all _ _ _ _ _ _ _ n.grew i.source in
+    let line = n.line (search rules) in
+    let at_end = end_noted _ _ _ _ n.ended i.at_end (λ over. ap g.S.Source.left (n.still over).0) in
+    let going = still_going _ _ (not_over w step start _ _ _ _ _ _ _ _ _ (λ over. (n.still over).1) line) i.state in
+    part_going w step start _ _ _ _ _ _ _ _ _ _ _ n.grew took going
+
+pub returns-in-Err-clause-part : goal.returns-in-Err-clause-part
+returns-in-Err-clause-part g c =
+    let e = c.args.engine.now in
+    let w = world_in e in
+    let step = first_step w (caps_in e) in
+    let start = opening e c.args.texts.now in
+    let i = c.turns.invariant in
+    let n = c.in-Ok-true.ensures in
+    let took = took_all _ _ _ _ _ _ _ n.grew i.source in
+    let line = n.line (search rules) in
+    let at_end = end_noted _ _ _ _ n.ended i.at_end (λ over. ap g.S.Source.left (n.still over).0) in
+    let going = still_going _ _ (not_over w step start _ _ _ _ _ _ _ _ _ (λ over. (n.still over).1) line) i.state in
+    part_going w step start _ _ _ _ _ _ _ _ _ _ _ n.grew took going
+
+pub returns-in-Ok-false-clause-done : goal.returns-in-Ok-false-clause-done
+returns-in-Ok-false-clause-done g c = λ _.
+    let e = c.args.engine.now in
+    let w = world_in e in
+    let step = first_step w (caps_in e) in
+    let start = opening e c.args.texts.now in
+    let i = c.turns.invariant in
+    let n = c.in-Ok-false.ensures in
+    let took = took_all _ _ _ _ _ _ _ n.grew i.source in
+    let end = n.end.0 (search rules) in
+    let at_end = end_noted _ _ _ _ n.ended i.at_end (λ over. ap g.S.Source.left (n.still over).0) end.0 in
+    ends w step start _ _ _ _ _ _ _ _ _ _ _ _ n.grew took (λ over. (n.still over).1) end.1 at_end i.state
+
+pub returns-in-Ok-false-clause-read : goal.returns-in-Ok-false-clause-read
+returns-in-Ok-false-clause-read g c = λ _.
+    let e = c.args.engine.now in
+    let w = world_in e in
+    let step = first_step w (caps_in e) in
+    let start = opening e c.args.texts.now in
+    let i = c.turns.invariant in
+    let n = c.in-Ok-false.ensures in
+    let took = took_all _ _ _ _ _ _ _ n.grew i.source in
+    let end = n.end.0 (search rules) in
+    let at_end = end_noted _ _ _ _ n.ended i.at_end (λ over. ap g.S.Source.left (n.still over).0) end.0 in
+    record { bytes = bytes_of c.next_line.new.self; took = took; count = counted _ _ _ _ _ _ _ n.grew i.count; stop = inl at_end }
+
+pub returns-in-Ok-false-clause-part : goal.returns-in-Ok-false-clause-part
+returns-in-Ok-false-clause-part g c =
+    let e = c.args.engine.now in
+    let w = world_in e in
+    let step = first_step w (caps_in e) in
+    let start = opening e c.args.texts.now in
+    let i = c.turns.invariant in
+    let n = c.in-Ok-false.ensures in
+    let took = took_all _ _ _ _ _ _ _ n.grew i.source in
+    let end = n.end.0 (search rules) in
+    let at_end = end_noted _ _ _ _ n.ended i.at_end (λ over. ap g.S.Source.left (n.still over).0) end.0 in
+    whole_part _ _ _ _ (ends w step start _ _ _ _ _ _ _ _ _ _ _ _ n.grew took (λ over. (n.still over).1) end.1 at_end i.state)
+
+pub returns-in-Err-Failed-clause-part : goal.returns-in-Err-Failed-clause-part
+returns-in-Err-Failed-clause-part g c =
+    let e = c.args.engine.now in
+    let w = world_in e in
+    let step = first_step w (caps_in e) in
+    let start = opening e c.args.texts.now in
+    let i = c.turns.invariant in
+    let n = c.in-Err-Failed.ensures in
+    let took = took_all _ _ _ _ _ _ _ n.grew i.source in
+    let open_ : (has_ended c.next_line.new.self ≡ true) × (given_of c.turns.lines ≡ length (bytes_of c.next_line.new.self)) → ⊥ =
+    λ both. let bad = n.end.1 both in cc in
+    let going = still_going _ _ (not_ended w step start _ _ _ _ _ _ _ _ (λ over. (n.still over).1) n.ended open_) i.state in
+    part_going w step start _ _ _ _ _ _ _ _ _ _ _ n.grew took going
+
+pub returns-in-Err-TooLong-clause-part : goal.returns-in-Err-TooLong-clause-part
+returns-in-Err-TooLong-clause-part g c =
+    let e = c.args.engine.now in
+    let w = world_in e in
+    let step = first_step w (caps_in e) in
+    let start = opening e c.args.texts.now in
+    let i = c.turns.invariant in
+    let n = c.in-Err-TooLong.ensures in
+    let took = took_all _ _ _ _ _ _ _ n.grew i.source in
+    let open_ : (has_ended c.next_line.new.self ≡ true) × (given_of c.turns.lines ≡ length (bytes_of c.next_line.new.self)) → ⊥ =
+    λ both. let bad = n.end.1 both in cc in
+    let going = still_going _ _ (not_ended w step start _ _ _ _ _ _ _ _ (λ over. (n.still over).1) n.ended open_) i.state in
+    part_going w step start _ _ _ _ _ _ _ _ _ _ _ n.grew took going
+
+pub returns-in-Err-NoMemory-clause-part : goal.returns-in-Err-NoMemory-clause-part
+returns-in-Err-NoMemory-clause-part g c =
+    let e = c.args.engine.now in
+    let w = world_in e in
+    let step = first_step w (caps_in e) in
+    let start = opening e c.args.texts.now in
+    let i = c.turns.invariant in
+    let n = c.in-Err-NoMemory.ensures in
+    let took = took_all _ _ _ _ _ _ _ n.grew i.source in
+    let open_ : (has_ended c.next_line.new.self ≡ true) × (given_of c.turns.lines ≡ length (bytes_of c.next_line.new.self)) → ⊥ =
+    λ both. let bad = n.end.1 both in cc in
+    let going = still_going _ _ (not_ended w step start _ _ _ _ _ _ _ _ (λ over. (n.still over).1) n.ended open_) i.state in
+    part_going w step start _ _ _ _ _ _ _ _ _ _ _ n.grew took going
+
+pub returns-in-Err-Failed-clause-broken : goal.returns-in-Err-Failed-clause-broken
+returns-in-Err-Failed-clause-broken g c = λ _.
+    let e = c.args.engine.now in
+    let w = world_in e in
+    let step = first_step w (caps_in e) in
+    let start = opening e c.args.texts.now in
+    let i = c.turns.invariant in
+    let n = c.in-Err-Failed.ensures in
+    let took = took_all _ _ _ _ _ _ _ n.grew i.source in
+    let open_ : (has_ended c.next_line.new.self ≡ true) × (given_of c.turns.lines ≡ length (bytes_of c.next_line.new.self)) → ⊥ =
+    λ both. let bad = n.end.1 both in cc in
+    let going = still_going _ _ (not_ended w step start _ _ _ _ _ _ _ _ (λ over. (n.still over).1) n.ended open_) i.state in
+    breaks w step start _ _ _ _ _ _ _ _ _ _ _ n.grew took (n.given (search rules)) going
+
+pub returns-in-Err-TooLong-clause-much : goal.returns-in-Err-TooLong-clause-much
+returns-in-Err-TooLong-clause-much g c = λ _.
+    let e = c.args.engine.now in
+    let w = world_in e in
+    let step = first_step w (caps_in e) in
+    let start = opening e c.args.texts.now in
+    let i = c.turns.invariant in
+    let n = c.in-Err-TooLong.ensures in
+    let took = took_all _ _ _ _ _ _ _ n.grew i.source in
+    let open_ : (has_ended c.next_line.new.self ≡ true) × (given_of c.turns.lines ≡ length (bytes_of c.next_line.new.self)) → ⊥ =
+    λ both. let bad = n.end.1 both in cc in
+    let going = still_going _ _ (not_ended w step start _ _ _ _ _ _ _ _ (λ over. (n.still over).1) n.ended open_) i.state in
+    too_long w step start _ _ _ _ _ _ _ _ _ _ _ n.grew took (n.long.0 (search rules)) (n.before (search rules)) going

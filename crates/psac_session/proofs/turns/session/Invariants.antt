@@ -1,0 +1,32 @@
+use Rattle.std.proofs.Common.{◌≡◌, ◌⊎◌, ◌≤◌, ◌+◌, ◌-◌, true, length}
+use Rattle.std.specs.Io.KnownBytes.{Consumes, IsAtEnd}
+use Rattle.psac_base.specs.Lines.{bytes_of, given_of, has_ended, is_live}
+use Rattle.psac_inputs.specs.Batch.{GoesInto}
+use Rattle.psac_report.specs.First.{first_step}
+use Rattle.psac_engine.specs.Engine.{caps_in, commits_in, grid_in, world_in}
+use Rattle.psac_session.specs.State.{opening, state_in}
+use Rattle.psac_session.proofs.Turn.{Going, Over}
+use Rattle.psac_session.proofs.turns.session.Given as goal
+
+abbrev pub invariant-turns : goal.invariant-turns
+invariant-turns g l =
+    let w = world_in l.initial.engine in
+    let step = first_step w (caps_in l.initial.engine) in
+    let start = opening l.initial.engine l.initial.texts in
+    record {
+      live : is_live l.lines ≡ true;
+      state : Going w step start (bytes_of l.lines) (given_of l.lines) (state_in l.engine l.desk l.texts) (g.K.Sink.held l.initial.out) (g.K.Sink.held l.out)
+          ⊎ Over w step start (bytes_of l.lines) (given_of l.lines) (has_ended l.lines) (g.K.Sink.held l.initial.out) (g.K.Sink.held l.out);
+      source : Consumes (g.S.Source.left l.initial.script) (g.S.Source.left l.script) (bytes_of l.lines);
+      count : g.S.Source.taken l.script ≡ g.S.Source.taken l.initial.script + length (bytes_of l.lines);
+      at_end : has_ended l.lines ≡ true → IsAtEnd (g.S.Source.left l.script);
+      later : g.S.Source.faults l.initial.script ≤ g.S.Source.faults l.script;
+      later_out : g.K.Sink.faults l.initial.out ≤ g.K.Sink.faults l.out;
+      few : commits_in l.engine ≤ commits_in l.initial.engine + given_of l.lines;
+      goes : GoesInto l.desk.batch (grid_in l.engine);
+      world : world_in l.engine ≡ world_in l.initial.engine;
+      caps : caps_in l.engine ≡ caps_in l.initial.engine;
+    }
+
+abbrev pub decreases-turns : goal.decreases-turns
+decreases-turns g l = 16777217 - given_of l.lines

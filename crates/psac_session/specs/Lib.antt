@@ -1,0 +1,4 @@
+pub mod State
+pub mod Replied
+pub mod Carried
+pub mod Answered

@@ -1,0 +1,224 @@
+// What is staged, and what a line of a script does.
+ghost use Rattle.std.specs.Prelude.{◌≡◌, ◌+◌, ◌≤◌, ◌<◌, Some, IfOk, OnOk, option_map};
+ghost use Rattle.psac_inputs.specs.Grid.{has_cell};
+ghost use Rattle.psac_inputs.specs.Batch.{empty_batch, put_all, GoesInto};
+ghost use Rattle.psac_inputs.specs.Texts.{Texts};
+ghost use Rattle.psac_report.specs.Script.{command_of};
+ghost use Rattle.psac_report.specs.Session.{rows_step, set_step};
+ghost use Rattle.psac_report.specs.First.{committed_anew, first_step, is_quit, quits};
+ghost use Rattle.psac_script.specs.Commands.{command_view};
+ghost use Rattle.psac_script.specs.Replies.{reply_view};
+ghost use Rattle.psac_engine.specs.Commit.{most_commits};
+ghost use Rattle.psac_engine.specs.Engine.{caps_in, commits_in, grid_in, world_in};
+ghost use Rattle.psac_session.specs.Replied.{IsReplyTo};
+
+use crate::show::shown_reply;
+use psac_base::NoMemory;
+use psac_engine::{Answer, Engine};
+use psac_inputs::{Batch, Interner, TextFault};
+use psac_model::Work;
+use psac_script::{Command, Reply, read_command, reply_text};
+use std::alloc::Global;
+
+/// What a session holds besides its engine and its texts.
+#[derive(Drop)]
+pub struct Desk {
+    pub batch: Batch,
+}
+
+/// What a line came to.
+#[derive(Drop)]
+pub enum Carried {
+    /// The line was carried out, and this is the text of its reply.
+    Reply(Vec<u8>),
+    /// The line ends the script.
+    Quit,
+}
+
+// The reply to a commit.
+fn reply_to(answer: Result<Work, Answer>) -> Result<Reply, NoMemory>
+    ensures { IfOk result (λ reply. IsReplyTo answer (reply_view reply)) }
+{
+    match answer {
+        Ok(work) => Ok(Reply::Worked(work)),
+        Err(Answer::Fault { kind, line }) => Ok(Reply::Faulted(kind, line)),
+        Err(Answer::Full { .. }) => Ok(Reply::Full),
+        Err(Answer::NoMemory) => Err(NoMemory),
+    }
+}
+
+// The command ends the script.
+fn ends_script(command: &Option<Command<'_>>) -> bool
+    ensures { result ≡ quits (option_map command_view command.now) }
+{
+    match command {
+        Some(Command::Quit) => true,
+        _ => false,
+    }
+}
+
+impl Desk {
+    ghost use Rattle.psac_session.specs.State.{state_in};
+    ghost use Rattle.psac_session.specs.Carried.{IsCarried};
+
+    /// Nothing is staged.
+    pub fn new(alloc: Global, engine: &Engine) -> Result<Desk, NoMemory>
+        ensures empty { IfOk result (λ d. d.batch ≡ empty_batch (grid_in engine.now)) }
+        ensures goes { IfOk result (λ d. GoesInto d.batch (grid_in engine.now)) }
+    {
+        Ok(Desk {
+            batch: Batch::new(alloc, engine.grid())?,
+        })
+    }
+
+    // Whether the staged grid has a cell in a present row.
+    fn has_cell(&self, engine: &Engine, row: u32, col: u32) -> bool
+        ensures { result ≡ has_cell row col (put_all self.now.batch (grid_in engine.now)) }
+    {
+        row < self.batch.staged_rows() && col < engine.grid().cols()
+    }
+
+    // Stages the value of a field for a cell.
+    fn set(
+        &mut self,
+        engine: &Engine,
+        texts: &mut Interner,
+        row: u32,
+        col: u32,
+        field: &[u8],
+    ) -> Result<Reply, NoMemory>
+        requires { GoesInto self.old.batch (grid_in engine.now) }
+        ensures step { IfOk result (λ reply.
+            set_step row col field.now (state_in engine.now self.old texts.old) ≡ (state_in engine.now self.new texts.new, reply_view reply)) }
+        ensures goes { OnOk result (GoesInto self.new.batch (grid_in engine.now)) }
+    {
+        if !self.has_cell(engine, row, col) {
+            return Ok(Reply::RefusedRange);
+        }
+        match texts.field(field) {
+            Ok(value) => match self.batch.set(row, col, value) {
+                Ok(()) => Ok(Reply::Nothing),
+                Err(_) => Err(NoMemory),
+            },
+            Err(TextFault::Utf8) => Ok(Reply::RefusedUtf8),
+            Err(TextFault::Limit) => Ok(Reply::RefusedLimit),
+            Err(TextFault::NoMemory) => Err(NoMemory),
+        }
+    }
+
+    // Stages a number of rows.
+    fn rows(&mut self, engine: &Engine, count: u32) -> Result<Reply, NoMemory>
+        requires { GoesInto self.old.batch (grid_in engine.now) }
+        ensures step { IfOk result (λ reply. (texts : Texts)
+            → rows_step count (state_in engine.now self.old texts) ≡ (state_in engine.now self.new texts, reply_view reply)) }
+        ensures goes { OnOk result (GoesInto self.new.batch (grid_in engine.now)) }
+    {
+        if count > engine.grid().room() {
+            return Ok(Reply::RefusedRange);
+        }
+        match self.batch.rows(count) {
+            Ok(()) => Ok(Reply::Nothing),
+            Err(_) => Err(NoMemory),
+        }
+    }
+
+    // Commits what is staged.
+    fn commit(&mut self, engine: &mut Engine) -> Result<Reply, NoMemory>
+        requires goes { GoesInto self.old.batch (grid_in engine.old) }
+        requires few { commits_in engine.old < most_commits }
+        ensures step { IfOk result (λ reply. (texts : Texts)
+            → committed_anew (world_in engine.old) (caps_in engine.old) (state_in engine.old self.old texts) ≡ (state_in engine.new self.new texts, reply_view reply)) }
+        ensures goes { GoesInto self.new.batch (grid_in engine.new) }
+        ensures commits { commits_in engine.new ≡ commits_in engine.old + 1 }
+        ensures world { world_in engine.new ≡ world_in engine.old }
+        ensures caps { caps_in engine.new ≡ caps_in engine.old }
+    {
+        reply_to(engine.commit(&mut self.batch))
+    }
+
+    // Carries out a command.
+    fn carry_out(
+        &mut self,
+        alloc: Global,
+        engine: &mut Engine,
+        texts: &mut Interner,
+        command: Command<'_>,
+    ) -> Result<Reply, NoMemory>
+        requires goes { GoesInto self.old.batch (grid_in engine.old) }
+        requires few { commits_in engine.old < most_commits }
+        ensures step { IfOk result (λ reply.
+            first_step (world_in engine.old) (caps_in engine.old) (state_in engine.old self.old texts.old) (Some (command_view command.entry))
+            ≡ (state_in engine.new self.new texts.new, reply_view reply)) }
+        ensures goes { OnOk result (GoesInto self.new.batch (grid_in engine.new)) }
+        ensures commits { commits_in engine.new ≤ commits_in engine.old + 1 }
+        ensures world { world_in engine.new ≡ world_in engine.old }
+        ensures caps { caps_in engine.new ≡ caps_in engine.old }
+    {
+        match command {
+            Command::Skip => Ok(Reply::Nothing),
+            Command::Set { row, col, field } => self.set(engine, texts, row, col, field),
+            Command::Rows { count } => self.rows(engine, count),
+            Command::Commit => self.commit(engine),
+            Command::Show => shown_reply(alloc, engine),
+            // What shows or holds a record comes with the record.
+            Command::Tree => Ok(Reply::RefusedForm),
+            Command::HoldOut { .. } => Ok(Reply::RefusedForm),
+            Command::HoldRef { .. } => Ok(Reply::RefusedForm),
+            Command::HoldFst { .. } => Ok(Reply::RefusedForm),
+            Command::HoldSnd { .. } => Ok(Reply::RefusedForm),
+            Command::Held { .. } => Ok(Reply::RefusedForm),
+            Command::Quit => Ok(Reply::Nothing),
+        }
+    }
+
+    // What is answered to a line that doesn't end the script.
+    fn answer(
+        &mut self,
+        alloc: Global,
+        engine: &mut Engine,
+        texts: &mut Interner,
+        command: Option<Command<'_>>,
+    ) -> Result<Reply, NoMemory>
+        requires goes { GoesInto self.old.batch (grid_in engine.old) }
+        requires few { commits_in engine.old < most_commits }
+        ensures step { IfOk result (λ reply.
+            first_step (world_in engine.old) (caps_in engine.old) (state_in engine.old self.old texts.old) (option_map command_view command.entry)
+            ≡ (state_in engine.new self.new texts.new, reply_view reply)) }
+        ensures goes { OnOk result (GoesInto self.new.batch (grid_in engine.new)) }
+        ensures commits { commits_in engine.new ≤ commits_in engine.old + 1 }
+        ensures world { world_in engine.new ≡ world_in engine.old }
+        ensures caps { caps_in engine.new ≡ caps_in engine.old }
+    {
+        match command {
+            Some(command) => self.carry_out(alloc, engine, texts, command),
+            None => Ok(Reply::RefusedForm),
+        }
+    }
+
+    /// Carries out one line.
+    pub fn one_line(
+        &mut self,
+        alloc: Global,
+        engine: &mut Engine,
+        texts: &mut Interner,
+        line: &[u8],
+    ) -> Result<Carried, NoMemory>
+        requires goes { GoesInto self.old.batch (grid_in engine.old) }
+        requires few { commits_in engine.old < most_commits }
+        ensures carried { IfOk result (IsCarried (world_in engine.old) (is_quit line.now)
+            (first_step (world_in engine.old) (caps_in engine.old) (state_in engine.old self.old texts.old) (command_of line.now))
+            (state_in engine.new self.new texts.new)) }
+        ensures goes { OnOk result (GoesInto self.new.batch (grid_in engine.new)) }
+        ensures commits { commits_in engine.new ≤ commits_in engine.old + 1 }
+        ensures world { world_in engine.new ≡ world_in engine.old }
+        ensures caps { caps_in engine.new ≡ caps_in engine.old }
+    {
+        let command = read_command(line).ok();
+        if ends_script(&command) {
+            return Ok(Carried::Quit);
+        }
+        let reply = self.answer(alloc, engine, texts, command)?;
+        let text = reply_text(alloc, &reply, engine.program(), texts)?;
+        Ok(Carried::Reply(text))
+    }
+}

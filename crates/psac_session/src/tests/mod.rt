@@ -1,0 +1,4 @@
+mod outside;
+mod programs;
+mod rows;
+mod run;

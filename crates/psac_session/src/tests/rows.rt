@@ -1,0 +1,122 @@
+use crate::SessionEnd;
+use crate::tests::programs::{copy, double, row_count, sum};
+use crate::tests::run::{Opening, carried};
+use psac_syntax::Func;
+use std::alloc::Global;
+use std::process::Abort;
+use std::test::Fail;
+
+const ONE: &str = "mode=anew visited=0 rerun=0 inside=1 dropped=0 nodes=2 mods=0 links=1\n";
+
+// A session that ends well writes this.
+fn writes(
+    rt: &impl Abort,
+    alloc: Global,
+    opening: Opening<'_>,
+    script: &str,
+    report: &[&str],
+) -> Result<(), Fail> {
+    let (end, written) = carried(alloc, opening, script)?;
+    assert_eq!(rt; end, SessionEnd::Done);
+    let mut wanted = Vec::new(alloc);
+    for text in report {
+        wanted.extend_from_slice(text.as_bytes())?;
+    }
+    assert_eq!(rt; written.as_slice(), wanted.as_slice());
+    Ok(())
+}
+
+fn over(funcs: Vec<Func>, input: &str) -> Opening<'_> {
+    Opening {
+        funcs,
+        input,
+        room: 4,
+        nodes: 262_144,
+    }
+}
+
+#[test]
+fn commits_and_shows(rt: HostRuntime) -> Result<(), Fail> {
+    let alloc = rt.alloc();
+    let script = "show\ncommit\nshow\nset 0 0 5\nshow\ncommit\nshow\nquit\nshow\n";
+    let report = ["none\n", ONE, "out = 42\n", "out = 42\n", ONE, "out = 10\n"];
+    writes(&rt, alloc, over(double(alloc)?, "21\n"), script, &report)
+}
+
+#[test]
+fn fault_and_anew(rt: HostRuntime) -> Result<(), Fail> {
+    let alloc = rt.alloc();
+    let script =
+        "commit\nshow\nset 0 0 4611686018427387904\ncommit\nshow\nset 0 0 1\ncommit\nshow\n";
+    let report = [
+        ONE,
+        "out = 9223372036854775806\n",
+        "fault overflow line 3\n",
+        "none\n",
+        ONE,
+        "out = 2\n",
+    ];
+    let opening = over(double(alloc)?, "4611686018427387903\n");
+    writes(&rt, alloc, opening, script, &report)
+}
+
+#[test]
+fn texts(rt: HostRuntime) -> Result<(), Fail> {
+    let alloc = rt.alloc();
+    let script = "set 0 0 \ncommit\nshow\nset 0 0 a \"b\ncommit\nshow\n";
+    let report = [ONE, "out = \"\"\n", ONE, "out = \"a \\\"b\"\n"];
+    writes(&rt, alloc, over(copy(alloc)?, "7\n"), script, &report)?;
+    let report = ["fault kind line 3\n", "none\n"];
+    let opening = over(double(alloc)?, "1\n");
+    writes(&rt, alloc, opening, "set 0 0 \ncommit\nshow\n", &report)
+}
+
+#[test]
+fn refusals(rt: HostRuntime) -> Result<(), Fail> {
+    let alloc = rt.alloc();
+    let script =
+        "# a remark\n\nset 1 0 1\nset 0 1 1\nrows 5\nset 0 0\ntree\nhold 0 out 0\nheld 0\ncommit \r\nsho";
+    let form = "refused form\n";
+    let range = "refused range\n";
+    let report = [range, range, range, form, form, form, form, form, form];
+    writes(&rt, alloc, over(double(alloc)?, "21\n"), script, &report)
+}
+
+#[test]
+fn rows(rt: HostRuntime) -> Result<(), Fail> {
+    let alloc = rt.alloc();
+    let script =
+        "commit\nshow\nrows 3\nset 2 0 7\nshow\ncommit\nshow\nrows 1\nset 1 0 1\ncommit\nshow\n";
+    let report = [
+        ONE,
+        "out = 2\n",
+        "out = 2\n",
+        ONE,
+        "out = 3\n",
+        "refused range\n",
+        ONE,
+        "out = 1\n",
+    ];
+    writes(
+        &rt,
+        alloc,
+        over(row_count(alloc)?, "1\n2\n"),
+        script,
+        &report,
+    )
+}
+
+#[test]
+fn caps(rt: HostRuntime) -> Result<(), Fail> {
+    let alloc = rt.alloc();
+    let column = "1\n2\n3\n4\n";
+    let work = "mode=anew visited=0 rerun=0 inside=7 dropped=0 nodes=34 mods=6 links=10\n";
+    let script = "commit\nshow\n";
+    let report = [work, "out = 10\n"];
+    writes(&rt, alloc, over(sum(alloc)?, column), script, &report)?;
+    let few = Opening {
+        nodes: 5,
+        ..over(sum(alloc)?, column)
+    };
+    writes(&rt, alloc, few, script, &["full\n", "none\n"])
+}
