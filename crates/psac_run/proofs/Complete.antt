@@ -1,41 +1,68 @@
--- Where all is accepted and nothing failed, the report is written, or memory is wanting.
-use Rattle.std.proofs.Common.{◌≡◌, ◌⊎◌, ◌≢◌, inl, inr, refl, sym, ◌∙◌, subst, arith, ℕ, List, Option, Some, None}
+-- Where all is accepted and nothing failed, the report is written, or the script is too long, or memory is wanting.
+use Rattle.std.proofs.Common.{◌≡◌, ◌⊎◌, inl, inr, refl, sym, ap, ◌∙◌, subst, arith, ℕ, List, Option, Some, None, Result, Ok, Err}
 use Rattle.psac_base.specs.Outside.{IsFile}
-use Rattle.psac_run.specs.Words.{Names}
-use Rattle.psac_run.specs.Answer.{Answers, Usage, ProgramRefused, InputRefused, Reported, IsAnswer, Wrote, HasText, IsStatus, AreAccepted, Files, IsInputFile, input_of}
+use Rattle.psac_syntax.specs.declared.program.Program.{Program}
+use Rattle.psac_grammar.specs.Language.{IsProgram}
+use Rattle.psac_grammar.proofs.Whole.{one_program}
+use Rattle.psac_model.specs.Series.{Fault, meets}
+use Rattle.psac_command.specs.Asked.{Asked}
+use Rattle.psac_run.specs.Accept.{Breach, IsAccepted, Limit, Refuses, Syntax}
+use Rattle.psac_run.specs.Answer.{Answers, AreAccepted, Files, HasPart, HasText, InputRefused, IsInputFile, IsProgramFile, IsStatus, ProgramRefused, Reported, Usage, Words, Wrote}
 
--- the name that a pair of names has
-same_names : (n name : List ℕ × List ℕ) → Some n ≡ Some name → n ≡ name
-same_names n name e = cc
+same_asked : (a b : Asked) → Some a ≡ Some b → a ≡ b
+same_asked a b e = cc
 
-five_is_not_four : (status : ℕ) → status ≡ 5 → status ≡ 4 → ⊥
-five_is_not_four status five four = absurd (omega arith)
+none_asked : (a : Asked) → Some a ≡ None → ⊥
+none_asked a e = cc
 
-input_file : (status : ℕ) (files : Files) (n : List ℕ × List ℕ) (input : List ℕ) → status ≡ 5 → (status ≡ 4) ⊎ IsInputFile files (Some n) input → IsFile files n.1 input
-input_file status files n input five (inl four) = absurd (five_is_not_four status five four)
-input_file status files n input five (inr is_input) = is_input
+ok_not_err : (r : Result (Unit {0}) Fault) (first : Fault) → r ≡ Ok tt → r ≡ Err first → ⊥
+ok_not_err r first ok broken = let e : Ok tt ≡ Err first = sym ok ∙ broken in cc
 
-zero_of : (status : ℕ) (text : List ℕ) (files : Files) (n : List ℕ × List ℕ) (program input : List ℕ)
-    → AreAccepted files (Some n) → IsFile files n.0 program → (status ≡ 4) ⊎ IsInputFile files (Some n) input
-    → Answers (Some n) program input status text → status ≡ 0
-zero_of status text files n program input accepted is_program is_input (Usage none two same) = absurd (let bad : Some n ≡ None = none in cc)
-zero_of status text files n program input accepted is_program is_input (ProgramRefused some unaccepted four same) =
-    let told = accepted.0 program is_program in absurd (unaccepted told.0 told.1)
-zero_of status text files n program input accepted is_program is_input (InputRefused name p names_is parsed refused five same) =
-    let e : n ≡ name = same_names n name names_is in
-    absurd (accepted.1 input (input_file status files n input five is_input) (rw e refused))
-zero_of status text files n program input accepted is_program is_input (Reported name p w g names_is parsed world grid zero same) = zero
+not_met : (p q : Program) (first : Fault) → p ≡ q → meets p ≡ Ok tt → meets q ≡ Err first → ⊥
+not_met p q first same met broken = ok_not_err (meets p) first met (ap meets same ∙ broken)
 
-zero : (status : ℕ) (files : Files) (names : Names) (before now : Option (List ℕ)) → AreAccepted files names
-    → Wrote status files names before now → status ≡ 0
-zero status files None before now accepted wrote = absurd accepted
-zero status files (Some n) before now accepted wrote =
-    zero_of status wrote.text files n wrote.is_answer.program wrote.is_answer.input accepted wrote.is_answer.program_is wrote.is_answer.input_is wrote.is_answer.answer
+-- bytes that are accepted aren't refused
+accepted_not_refused : (bytes text : List ℕ) (p : Program) → IsAccepted bytes p → Refuses bytes text → ⊥
+accepted_not_refused bytes text p is (Syntax line column none at told) = none p is.is_program
+accepted_not_refused bytes text p is (Limit which line none at told) = none p is.is_program
+accepted_not_refused bytes text p is (Breach q first program broken told) = not_met p q first (one_program bytes p q is.is_program program) is.is_met broken
 
-pub complete : (code : ℕ) (files : Files) (names : Names) (before now : Option (List ℕ)) (failed rose : Type 0)
-    → IsStatus code → (HasText code → Wrote code files names before now) → (code ≡ 3 → failed) → (code ≡ 7 → rose)
-    → AreAccepted files names → (failed → ⊥) → (rose → ⊥) → (code ≡ 0) ⊎ (code ≡ 9)
-complete code files names before now failed rose (inl text) wrote shelf sink accepted fine well = inl (zero code files names before now accepted (wrote text))
-complete code files names before now failed rose (inr (inl e)) wrote shelf sink accepted fine well = absurd (fine (shelf e))
-complete code files names before now failed rose (inr (inr (inl e))) wrote shelf sink accepted fine well = absurd (well (sink e))
-complete code files names before now failed rose (inr (inr (inr e))) wrote shelf sink accepted fine well = inr e
+five_not_four : (status : ℕ) → status ≡ 5 → status ≡ 4 → ⊥
+five_not_four status five four = absurd (omega arith)
+
+input_file : (status : ℕ) (files : Files) (a : Asked) (input : List ℕ) → status ≡ 5 → (status ≡ 4) ⊎ IsInputFile files (Some a) input → IsFile files a.input input
+input_file status files a input five (inl four) = absurd (five_not_four status five four)
+input_file status files a input five (inr is_input) = is_input
+
+zero_of : (status : ℕ) (text : List ℕ) (files : Files) (a : Asked) (program input script : List ℕ)
+    → ((bytes : List ℕ) → IsFile files a.program bytes → (p : Program) × IsAccepted bytes p)
+    → AreAccepted files (Some a) → IsFile files a.program program → (status ≡ 4) ⊎ IsInputFile files (Some a) input
+    → Answers (Some a) program input script status text → status ≡ 0
+zero_of status text files a program input script takes accepted is_program is_input (Usage none two same) = absurd (none_asked a none)
+zero_of status text files a program input script takes accepted is_program is_input (ProgramRefused b words refuses four) =
+    let told = takes program is_program in absurd (accepted_not_refused program text told.0 told.1 refuses)
+zero_of status text files a program input script takes accepted is_program is_input (InputRefused b p words is refuses five) =
+    let same : accepted.asked ≡ b = same_asked accepted.asked b (sym accepted.words_are ∙ words) in
+    let own : a ≡ b = same_asked a b words in
+    let file : IsFile files accepted.asked.input input =
+    subst (λ (x : Asked). IsFile files x.input input) (own ∙ sym same) (input_file status files a input five is_input) in
+    absurd (accepted.input input text p file (rw same refuses))
+zero_of status text files a program input script takes accepted is_program is_input (Reported b p w g texts words is opens zero told) = zero
+
+zero : (status : ℕ) (files : Files) (words : Words) (told before now : Option (List ℕ)) → AreAccepted files words → Wrote status files words told before now → status ≡ 0
+zero status files None told before now accepted wrote = absurd (let e : None ≡ Some accepted.asked = accepted.words_are in cc)
+zero status files (Some a) told before now accepted wrote =
+    let own : accepted.asked ≡ a = sym (same_asked a accepted.asked accepted.words_are) in
+    zero_of status wrote.text files a wrote.is_answer.program wrote.is_answer.input wrote.is_answer.script
+    (subst (λ (x : Asked). (bytes : List ℕ) → IsFile files x.program bytes → (p : Program) × IsAccepted bytes p) own accepted.program)
+    accepted wrote.is_answer.program_is wrote.is_answer.input_is wrote.is_answer.answer
+
+pub complete : (code : ℕ) (files : Files) (words : Words) (told before now : Option (List ℕ)) (failed broke rose : Type 0)
+    → IsStatus code → (HasText code → Wrote code files words told before now) → (code ≡ 3 → failed) → (code ≡ 6 → broke) → (code ≡ 7 → rose)
+    → AreAccepted files words → (failed → ⊥) → (broke → ⊥) → (rose → ⊥) → (code ≡ 0) ⊎ (code ≡ 8) ⊎ (code ≡ 9)
+complete code files words told before now failed broke rose (inl text) wrote shelf source sink accepted fine whole well = inl (zero code files words told before now accepted (wrote text))
+complete code files words told before now failed broke rose (inr (inl (inl e))) wrote shelf source sink accepted fine whole well = absurd (whole (source e))
+complete code files words told before now failed broke rose (inr (inl (inr (inl e)))) wrote shelf source sink accepted fine whole well = absurd (well (sink e))
+complete code files words told before now failed broke rose (inr (inl (inr (inr e)))) wrote shelf source sink accepted fine whole well = inr (inl e)
+complete code files words told before now failed broke rose (inr (inr (inl e))) wrote shelf source sink accepted fine whole well = absurd (fine (shelf e))
+complete code files words told before now failed broke rose (inr (inr (inr e))) wrote shelf source sink accepted fine whole well = inr (inr e)

@@ -1,4 +1,7 @@
-pub mod Told
-pub mod Opens
+pub mod Lines
+pub mod Enter
+pub mod Parts
+pub mod Sessions
+pub mod Reports
 pub mod Finished
 pub mod Complete

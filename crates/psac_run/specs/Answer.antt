@@ -1,16 +1,27 @@
 -- What the top call promises.
-use Rattle.std.specs.Prelude.{◌≡◌, ◌⊎◌, ◌≢◌, ℕ, List, [], Option, Some, None, codes, if◌then◌else◌}
+use Rattle.std.specs.Prelude.{◌≡◌, ◌⊎◌, ℕ, List, [], Option, Some, None}
 use Rattle.psac_base.specs.Causes.{Rose}
 use Rattle.psac_base.specs.Outside.{Appended, AppendedPart, IsFile}
 use Rattle.psac_syntax.specs.declared.program.Program.{Program}
-use Rattle.psac_grammar.specs.Language.{IsProgram}
 use Rattle.psac_inputs.specs.Grid.{Grid}
-use Rattle.psac_inputs.specs.Ints.{int_column}
-use Rattle.psac_model.specs.Fresh.{World, world_of}
+use Rattle.psac_inputs.specs.Texts.{Texts}
+use Rattle.psac_model.specs.declared.ends.Caps.{Caps}
+use Rattle.psac_model.specs.Fresh.{World}
 use Rattle.psac_report.specs.Refused.{usage_line}
 use Rattle.psac_report.specs.Report.{once_report}
-use Rattle.psac_run.specs.Words.{Names, default_caps, is_text_name}
+use Rattle.psac_report.specs.Session.{begun}
+use Rattle.psac_report.specs.First.{first_report, first_step, replies_by}
+use Rattle.psac_command.specs.declared.request.Mode.{Mode}
+use Rattle.psac_command.specs.declared.request.Mode.TheVariants.{Once, Session}
+use Rattle.psac_command.specs.Asked.{Asked}
+use Rattle.psac_session.specs.Answered.{Answer, IsScript}
+use Rattle.psac_run.specs.Accept.{IsAccepted, Refuses}
+use Rattle.psac_run.specs.Opens.{Opens, RefusesBeside}
 use Rattle.psac_run.specs.declared.top.TheConstants.{MOST}
+
+-- what the words ask for, if it is known
+abbrev pub Words : Type 0
+Words = Option Asked
 
 -- the files of a shelf, by name and bytes, where it tells them
 abbrev pub Files : Type 0
@@ -20,84 +31,126 @@ Files = Option (List (List ℕ × List ℕ))
 abbrev pub Counts : Type 0
 Counts = List ℕ → ℕ → ℕ
 
--- the grid of an input: a column of numbers in a file whose name ends in `.txt`
-abbrev pub input_of : List ℕ → List ℕ → Option Grid
-input_of name bytes = if is_text_name name then int_column bytes else None
+-- the report of one run, or of a session over a script
+abbrev pub report_of : Mode → World → Caps → Grid → Texts → List ℕ → List ℕ
+report_of Once w caps g texts script = once_report w caps g texts
+report_of Session w caps g texts script = first_report w caps g texts script
 
--- the status and the text for words, where the program's and the input's bytes are these
-pub data Answers (names : Names) (program input : List ℕ) (status : ℕ) (text : List ℕ) : Type 0 where
+-- the status and the text for words, where these are the bytes of the program, of the input and of the script
+pub data Answers (words : Words) (program input script : List ℕ) (status : ℕ) (text : List ℕ) : Type 0 where
   -- the words ask for nothing that is known
-  Usage : names ≡ None → status ≡ 2 → text ≡ usage_line → Answers names program input status text
-  -- the bytes of the program are none
-  ProgramRefused : names ≢ None → ((p : Program) → IsProgram program p → ⊥) → status ≡ 4 → text ≡ codes "program refused\n" → Answers names program input status text
-  -- the program is one, and the bytes of the input are none
-  InputRefused : (name : List ℕ × List ℕ) (p : Program) → names ≡ Some name → IsProgram program p → input_of name.1 input ≡ None
-      → status ≡ 5 → text ≡ codes "input refused\n" → Answers names program input status text
-  -- both are accepted: the report of one commit
-  Reported : (name : List ℕ × List ℕ) (p : Program) (w : World) (g : Grid) → names ≡ Some name → IsProgram program p → world_of p [] ≡ Some w
-      → input_of name.1 input ≡ Some g → status ≡ 0 → text ≡ once_report w default_caps g [] → Answers names program input status text
+  Usage : words ≡ None → status ≡ 2 → text ≡ usage_line → Answers words program input script status text
+  -- the bytes of the program are none that is run
+  ProgramRefused : (a : Asked) → words ≡ Some a → Refuses program text → status ≡ 4 → Answers words program input script status text
+  -- the program is run, and the input isn't taken
+  InputRefused : (a : Asked) (p : Program) → words ≡ Some a → IsAccepted program p → RefusesBeside p a.input input text → status ≡ 5
+      → Answers words program input script status text
+  -- both are accepted
+  Reported : (a : Asked) (p : Program) (w : World) (g : Grid) (texts : Texts) → words ≡ Some a → IsAccepted program p
+      → Opens p a.input input a.settings.rows w g texts → status ≡ 0 → text ≡ report_of a.mode w a.settings.caps g texts script
+      → Answers words program input script status text
 
 -- where files are told, these are the bytes of the program
-abbrev pub IsProgramFile : Files → Names → List ℕ → Type 0
+abbrev pub IsProgramFile : Files → Words → List ℕ → Type 0
 IsProgramFile files None bytes = Unit {0}
-IsProgramFile files (Some names) bytes = IsFile files names.0 bytes
+IsProgramFile files (Some a) bytes = IsFile files a.program bytes
 
 -- and of the input
-abbrev pub IsInputFile : Files → Names → List ℕ → Type 0
+abbrev pub IsInputFile : Files → Words → List ℕ → Type 0
 IsInputFile files None bytes = Unit {0}
-IsInputFile files (Some names) bytes = IsFile files names.1 bytes
+IsInputFile files (Some a) bytes = IsFile files a.input bytes
 
--- the status and the text are the answer for some bytes of the program and of the input, which are those of the
--- files, where files are told
-pub record IsAnswer (status : ℕ) (text : List ℕ) (files : Files) (names : Names) : Type 0 where
+-- the status and the text are the answer for some bytes of the program, of the input and of the script, which are those
+-- that are told, where they are told
+pub record IsAnswer (status : ℕ) (text : List ℕ) (files : Files) (words : Words) (told : Option (List ℕ)) : Type 0 where
   pub program : List ℕ
   pub input : List ℕ
-  pub answer : Answers names program input status text
-  pub program_is : IsProgramFile files names program
-  pub input_is : status ≡ 4 ⊎ IsInputFile files names input
+  pub script : List ℕ
+  pub answer : Answers words program input script status text
+  pub program_is : IsProgramFile files words program
+  pub input_is : status ≡ 4 ⊎ IsInputFile files words input
+  pub script_is : IsScript told script
 
 -- the text of that status was written whole
-pub record Wrote (status : ℕ) (files : Files) (names : Names) (before now : Option (List ℕ)) : Type 0 where
+pub record Wrote (status : ℕ) (files : Files) (words : Words) (told before now : Option (List ℕ)) : Type 0 where
   pub text : List ℕ
-  pub is_answer : IsAnswer status text files names
+  pub is_answer : IsAnswer status text files words told
   pub written : Appended before now text
 
 -- a first part of the text of some status was written
-pub record WrotePart (files : Files) (names : Names) (before now : Option (List ℕ)) : Type 0 where
+pub record WrotePart (files : Files) (words : Words) (told before now : Option (List ℕ)) : Type 0 where
   pub status : ℕ
   pub text : List ℕ
-  pub is_answer : IsAnswer status text files names
+  pub is_answer : IsAnswer status text files words told
   pub written : AppendedPart before now text
+
+-- what a session answers to lines
+abbrev pub answers_of : World → Caps → Grid → Texts → Answer
+answers_of w caps g texts lines = replies_by w (first_step w caps) lines (begun g texts)
+
+-- a session was held over the program and the input, and this holds of its answers
+pub record Held (files : Files) (words : Words) (is : Answer → Type 0) : Type 0 where
+  pub asked : Asked
+  pub words_are : words ≡ Some asked
+  pub mode_is : asked.mode ≡ Session
+  pub program : List ℕ
+  pub program_is : IsFile files asked.program program
+  pub input : List ℕ
+  pub input_is : IsFile files asked.input input
+  pub accepted : Program
+  pub is_accepted : IsAccepted program accepted
+  pub world : World
+  pub grid : Grid
+  pub texts : Texts
+  pub opens : Opens accepted asked.input input asked.settings.rows world grid texts
+  pub holds : is (answers_of world asked.settings.caps grid texts)
 
 -- loads of that name failed, or met too large a file
 abbrev pub RoseFor : List ℕ → Counts → Counts → Counts → Counts → Type 0
 RoseFor name faults faults_now overs overs_now = Rose (faults name MOST) (faults_now name MOST) ⊎ Rose (overs name MOST) (overs_now name MOST)
 
--- the bytes of a file are a program
+-- the bytes of a file are a program that is run
 pub record AcceptedFile (files : Files) (name : List ℕ) : Type 0 where
   pub bytes : List ℕ
   pub program : Program
   pub is_file : IsFile files name bytes
-  pub is_program : IsProgram bytes program
+  pub is_accepted : IsAccepted bytes program
 
 -- the program's load failed; or the program is accepted, and the input's load failed
-abbrev pub LoadFailed : Files → Names → Counts → Counts → Counts → Counts → Type 0
+abbrev pub LoadFailed : Files → Words → Counts → Counts → Counts → Counts → Type 0
 LoadFailed files None faults faults_now overs overs_now = ⊥
-LoadFailed files (Some names) faults faults_now overs overs_now =
-    RoseFor names.0 faults faults_now overs overs_now
-    ⊎ (AcceptedFile files names.0 × RoseFor names.1 faults faults_now overs overs_now)
+LoadFailed files (Some a) faults faults_now overs overs_now =
+    RoseFor a.program faults faults_now overs overs_now
+    ⊎ (AcceptedFile files a.program × RoseFor a.input faults faults_now overs overs_now)
 
--- the statuses that go with a text
+-- a program that is run, of some bytes of the file of that name
+abbrev pub HasProgram : Files → List ℕ → Program → Type 0
+HasProgram files name p = (bytes : List ℕ) × IsFile files name bytes × IsAccepted bytes p
+
+-- nothing was written, or a first part of a text
+abbrev pub WroteSome : Files → Words → Option (List ℕ) → Option (List ℕ) → Option (List ℕ) → Type 0
+WroteSome files words told before now = Appended before now [] ⊎ WrotePart files words told before now
+
+-- the statuses that go with a whole text
 abbrev pub HasText : ℕ → Type 0
 HasText code = (code ≡ 0) ⊎ (code ≡ 2) ⊎ (code ≡ 4) ⊎ (code ≡ 5)
 
+-- the statuses behind a first part of a text
+abbrev pub HasPart : ℕ → Type 0
+HasPart code = (code ≡ 6) ⊎ (code ≡ 7) ⊎ (code ≡ 8)
+
 -- the statuses
 abbrev pub IsStatus : ℕ → Type 0
-IsStatus code = HasText code ⊎ (code ≡ 3) ⊎ (code ≡ 7) ⊎ (code ≡ 9)
+IsStatus code = HasText code ⊎ HasPart code ⊎ (code ≡ 3) ⊎ (code ≡ 9)
 
--- the words ask for a run, and the program and the input are accepted, whatever the shelf may give for them
-abbrev pub AreAccepted : Files → Names → Type 0
-AreAccepted files None = ⊥
-AreAccepted files (Some names) =
-    ((bytes : List ℕ) → IsFile files names.0 bytes → (p : Program) × IsProgram bytes p)
-    × ((bytes : List ℕ) → IsFile files names.1 bytes → input_of names.1 bytes ≢ None)
+-- the words ask for one run, or for nothing that is known
+abbrev pub IsNoSession : Words → Type 0
+IsNoSession None = Unit {0}
+IsNoSession (Some a) = a.mode ≡ Once
+
+-- the words ask for something that is known, and the program and the input are accepted, whatever the shelf may give for them
+pub record AreAccepted (files : Files) (words : Words) : Type 0 where
+  pub asked : Asked
+  pub words_are : words ≡ Some asked
+  pub program : (bytes : List ℕ) → IsFile files asked.program bytes → (p : Program) × IsAccepted bytes p
+  pub input : (bytes text : List ℕ) (p : Program) → IsFile files asked.input bytes → RefusesBeside p asked.input bytes text → ⊥

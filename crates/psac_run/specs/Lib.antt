@@ -1,3 +1,6 @@
-pub mod Words
-pub mod Told
+pub mod Accept
+pub mod Loads
+pub mod Opens
+pub mod Views
+pub mod Served
 pub mod Answer

@@ -1,11 +1,17 @@
 //! A run of a program over an input, from the words of a command line to the bytes that are written.
 #![tactic(auto)]
 
+mod accept;
+mod finish;
 mod input;
-mod once;
+mod open;
+mod refusal;
+mod serve;
+mod status;
 #[cfg(test)]
 mod tests;
+mod texts;
 mod top;
-mod words;
 
-pub use top::{Status, psac};
+pub use status::Status;
+pub use top::psac;

@@ -1,47 +1,28 @@
 // The top call.
-ghost use Rattle.std.specs.Prelude.{◌≡◌, ◌⊎◌, ◌<◌, ◌≤◌, ℕ, List, [], Some, None, OnErr, IfOk, IfErr, map, string_bytes, length};
-ghost use Rattle.psac_base.specs.Causes.{Rose, HasCause};
-ghost use Rattle.psac_base.specs.Outside.{Appended, AppendedPart, IsFile, NoneFalls};
-ghost use Rattle.psac_run.specs.Words.{asked};
-ghost use Rattle.psac_run.specs.Answer.{Wrote, WrotePart, RoseFor, LoadFailed, HasText, IsStatus, AreAccepted};
+ghost use Rattle.std.specs.Prelude.{◌≡◌, ◌⊎◌, ◌↔◌, ◌+◌, [], None, Some, IfOk, IfErr, IsSome, map, string_bytes};
+ghost use Rattle.psac_base.specs.Causes.{Rose};
+ghost use Rattle.psac_base.specs.Outside.{Appended, IsFile, NoneFalls};
+ghost use Rattle.psac_model.specs.Fresh.{main_of};
+ghost use Rattle.psac_command.specs.Asked.{AreCaps, Asked, asked};
+ghost use Rattle.psac_command.specs.Views.{request_view};
+ghost use Rattle.psac_session.specs.Answered.{AnsweredLong, AnsweredWhole, ReadOut};
+ghost use Rattle.psac_run.specs.Answer.{AreAccepted, HasPart, HasProgram, HasText, Held, IsNoSession, IsStatus, LoadFailed, RoseFor, Wrote, WrotePart, WroteSome};
 
-use crate::input::read_input;
-use crate::once::report;
-use crate::words::read_words;
-use psac_base::{Shelf, ShelfFault, Sink, Source, write_whole};
-use psac_inputs::IntsFault;
-use psac_lang::{ParseFault, parse};
+use crate::accept::accept;
+use crate::finish::finish;
+use crate::open::open;
+use crate::refusal::Refusal;
+use crate::serve::serve;
+use crate::status::{NO_MEMORY, Status};
+use psac_base::{Shelf, ShelfFault, Sink, Source};
+use psac_command::{Mode, Request, read_request};
 use psac_script::usage_line;
+use psac_syntax::Program;
 use std::alloc::Global;
 use std::thread::Threads;
 
-const PROGRAM_REFUSED: &[u8; 16] = b"program refused\n";
-
-const INPUT_REFUSED: &[u8; 14] = b"input refused\n";
-
 /// The bytes that a file may have.
 pub const MOST: u64 = 16_777_216;
-
-#[derive(Clone, Copy, Debug, PartialEq, Eq)]
-pub struct Status {
-    pub code: u8,
-}
-
-const NO_MEMORY: Status = Status { code: 9 };
-
-// Ends with this text.
-fn finish<K: Sink>(out: &mut K, text: &[u8], code: u8) -> Status
-    requires { code < 7 }
-    ensures status { (result.code ≡ code) ⊎ (result.code ≡ 7) }
-    ensures whole { result.code ≡ code → Appended (K.held out.old) (K.held out.new) text.now }
-    ensures part { result.code ≡ 7 → AppendedPart (K.held out.old) (K.held out.new) text.now }
-    ensures sink { result.code ≡ 7 → Rose (K.faults out.old) (K.faults out.new) }
-{
-    match write_whole(out, text) {
-        Ok(()) => Status { code },
-        Err(_) => Status { code: 7 },
-    }
-}
 
 // The bytes of a file, or the status.
 fn load_named<F: Shelf>(shelf: &mut F, alloc: Global, name: &str) -> Result<Vec<u8>, Status>
@@ -61,46 +42,93 @@ fn load_named<F: Shelf>(shelf: &mut F, alloc: Global, name: &str) -> Result<Vec<
     }
 }
 
-// One run of a program over an input.
-fn run_once<F: Shelf, K: Sink>(
+// Loads the input of a program that is run, and runs it.
+fn run_program<F: Shelf, S: Source, K: Sink>(
     alloc: Global,
-    program: &str,
-    input: &str,
+    program: Program,
+    request: &Request<'_>,
     shelf: &mut F,
+    script: &mut S,
     out: &mut K,
 ) -> Status
+    requires caps { AreCaps request.now.settings.caps }
+    requires main { IsSome (main_of program) }
+    requires program { HasProgram (F.files shelf.old) request.now.program.now program }
     ensures status { IsStatus result.code }
     ensures words { (result.code ≡ 2) → ⊥ }
-    ensures answered { HasText result.code
-        → Wrote result.code (F.files shelf.old) (Some (program.now, input.now)) (K.held out.old) (K.held out.new) }
-    ensures part { result.code ≡ 7
-        → WrotePart (F.files shelf.old) (Some (program.now, input.now)) (K.held out.old) (K.held out.new) }
+    ensures answered { HasText result.code → Wrote result.code (F.files shelf.old) (Some (request_view request.now))
+        (S.left script.old) (K.held out.old) (K.held out.new) }
+    ensures part { HasPart result.code → WrotePart (F.files shelf.old) (Some (request_view request.now))
+        (S.left script.old) (K.held out.old) (K.held out.new) }
+    ensures memory { result.code ≡ 9 → WroteSome (F.files shelf.old) (Some (request_view request.now))
+        (S.left script.old) (K.held out.old) (K.held out.new) }
     ensures sink { result.code ≡ 7 → Rose (K.faults out.old) (K.faults out.new) }
-    ensures shelf { result.code ≡ 3 → LoadFailed (F.files shelf.old) (Some (program.now, input.now))
-        (F.faults shelf.old) (F.faults shelf.new) (F.overs shelf.old) (F.overs shelf.new) }
-    ensures nothing { (result.code ≡ 3) ⊎ (result.code ≡ 9) → Appended (K.held out.old) (K.held out.new) [] }
+    ensures source { result.code ≡ 6 → Rose (S.faults script.old) (S.faults script.new) }
+    ensures shelf { result.code ≡ 3 → RoseFor request.now.input.now (F.faults shelf.old) (F.faults shelf.new) (F.overs shelf.old) (F.overs shelf.new) }
+    ensures nothing { result.code ≡ 3 → Appended (K.held out.old) (K.held out.new) [] }
+    ensures script { request.now.mode ≡ Mode.Once → script.new ≡ script.old }
+    ensures single { request.now.mode ≡ Mode.Once → ((result.code ≡ 6) ⊎ (result.code ≡ 8)) → ⊥ }
+    ensures spare { request.now.mode ≡ Mode.Once → result.code ≡ 9 → Appended (K.held out.old) (K.held out.new) [] }
+    ensures read { request.now.mode ≡ Mode.Session → result.code ≡ 0
+        → ReadOut (S.left script.old) (S.left script.new) (S.taken script.old) (S.taken script.new) }
+    ensures broken { result.code ≡ 6 → Held (F.files shelf.old) (Some (request_view request.now)) (λ answer. AnsweredWhole answer
+        (S.left script.old) (S.left script.new) (K.held out.old) (K.held out.new)) }
+    ensures long { (result.code ≡ 8) ↔ (S.taken script.new ≡ S.taken script.old + 16777217) }
+    ensures much { result.code ≡ 8 → Held (F.files shelf.old) (Some (request_view request.now)) (λ answer. AnsweredLong answer
+        (S.left script.old) (S.left script.new) (K.held out.old) (K.held out.new)) }
 {
-    let bytes = match load_named(shelf, alloc, program) {
+    let bytes = match load_named(shelf, alloc, request.input) {
         Ok(bytes) => bytes,
         Err(status) => return status,
     };
-    let parsed = match parse(alloc, &bytes) {
-        Ok(parsed) => parsed,
-        Err(ParseFault::Refused) => return finish(out, PROGRAM_REFUSED, 4),
-        Err(ParseFault::NoMemory) => return NO_MEMORY,
-    };
-    let bytes = match load_named(shelf, alloc, input) {
+    match open(alloc, program, request.input, &bytes, &request.settings) {
+        Ok(mut opened) => serve(alloc, request.mode, &mut opened, script, out),
+        Err(Refusal::Line(line)) => finish(out, &line, 5),
+        Err(Refusal::NoMemory) => NO_MEMORY,
+    }
+}
+
+// Loads a program and its input, and runs it.
+fn run_request<F: Shelf, S: Source, K: Sink>(
+    alloc: Global,
+    request: &Request<'_>,
+    shelf: &mut F,
+    script: &mut S,
+    out: &mut K,
+) -> Status
+    requires { AreCaps request.now.settings.caps }
+    ensures status { IsStatus result.code }
+    ensures words { (result.code ≡ 2) → ⊥ }
+    ensures answered { HasText result.code → Wrote result.code (F.files shelf.old) (Some (request_view request.now))
+        (S.left script.old) (K.held out.old) (K.held out.new) }
+    ensures part { HasPart result.code → WrotePart (F.files shelf.old) (Some (request_view request.now))
+        (S.left script.old) (K.held out.old) (K.held out.new) }
+    ensures memory { result.code ≡ 9 → WroteSome (F.files shelf.old) (Some (request_view request.now))
+        (S.left script.old) (K.held out.old) (K.held out.new) }
+    ensures sink { result.code ≡ 7 → Rose (K.faults out.old) (K.faults out.new) }
+    ensures source { result.code ≡ 6 → Rose (S.faults script.old) (S.faults script.new) }
+    ensures shelf { result.code ≡ 3 → LoadFailed (F.files shelf.old) (Some (request_view request.now))
+        (F.faults shelf.old) (F.faults shelf.new) (F.overs shelf.old) (F.overs shelf.new) }
+    ensures nothing { result.code ≡ 3 → Appended (K.held out.old) (K.held out.new) [] }
+    ensures script { request.now.mode ≡ Mode.Once → script.new ≡ script.old }
+    ensures single { request.now.mode ≡ Mode.Once → ((result.code ≡ 6) ⊎ (result.code ≡ 8)) → ⊥ }
+    ensures spare { request.now.mode ≡ Mode.Once → result.code ≡ 9 → Appended (K.held out.old) (K.held out.new) [] }
+    ensures read { request.now.mode ≡ Mode.Session → result.code ≡ 0
+        → ReadOut (S.left script.old) (S.left script.new) (S.taken script.old) (S.taken script.new) }
+    ensures broken { result.code ≡ 6 → Held (F.files shelf.old) (Some (request_view request.now)) (λ answer. AnsweredWhole answer
+        (S.left script.old) (S.left script.new) (K.held out.old) (K.held out.new)) }
+    ensures long { (result.code ≡ 8) ↔ (S.taken script.new ≡ S.taken script.old + 16777217) }
+    ensures much { result.code ≡ 8 → Held (F.files shelf.old) (Some (request_view request.now)) (λ answer. AnsweredLong answer
+        (S.left script.old) (S.left script.new) (K.held out.old) (K.held out.new)) }
+{
+    let bytes = match load_named(shelf, alloc, request.program) {
         Ok(bytes) => bytes,
         Err(status) => return status,
     };
-    let grid = match read_input(alloc, input, &bytes) {
-        Ok(grid) => grid,
-        Err(IntsFault::Refused) => return finish(out, INPUT_REFUSED, 5),
-        Err(IntsFault::NoMemory) => return NO_MEMORY,
-    };
-    match report(alloc, &parsed, &grid) {
-        Ok(text) => finish(out, &text, 0),
-        Err(_) => NO_MEMORY,
+    match accept(alloc, &bytes) {
+        Ok(checked) => run_program(alloc, checked.into_program(), request, shelf, script, out),
+        Err(Refusal::Line(line)) => finish(out, &line, 4),
+        Err(Refusal::NoMemory) => NO_MEMORY,
     }
 }
 
@@ -110,34 +138,53 @@ pub fn psac<Rt: Threads + Sync, F: Shelf, S: Source, K: Sink>(
     alloc: Global,
     words: &Vec<String>,
     shelf: &mut F,
-    _script: &mut S,
+    script: &mut S,
     out: &mut K,
 ) -> Status
     ensures status { IsStatus result.code }
     // With a status that has a text, that text was written: with 0 the whole report.
     ensures answered { HasText result.code → Wrote result.code (F.files shelf.old)
-        (asked (map string_bytes words.now.items)) (K.held out.old) (K.held out.new) }
+        (asked (map string_bytes words.now.items)) (S.left script.old) (K.held out.old) (K.held out.new) }
+    // Where a read or a write failed, and where the script is too long, a first part of a text was written.
+    ensures part { HasPart result.code → WrotePart (F.files shelf.old)
+        (asked (map string_bytes words.now.items)) (S.left script.old) (K.held out.old) (K.held out.new) }
+    // Where memory ran out, such a part or nothing.
+    ensures memory { result.code ≡ 9 → WroteSome (F.files shelf.old)
+        (asked (map string_bytes words.now.items)) (S.left script.old) (K.held out.old) (K.held out.new) }
     // Other words are refused, and no other.
-    ensures refused { asked (map string_bytes words.now.items) ≡ None → (result.code ≡ 2) ⊎ (result.code ≡ 7) }
+    ensures refused { asked (map string_bytes words.now.items) ≡ None → (result.code ≡ 2) ⊎ (result.code ≡ 7) ⊎ (result.code ≡ 9) }
     ensures usage { result.code ≡ 2 → asked (map string_bytes words.now.items) ≡ None }
     // A load failed, and nothing was written.
     ensures shelf { result.code ≡ 3 → LoadFailed (F.files shelf.old) (asked (map string_bytes words.now.items))
         (F.faults shelf.old) (F.faults shelf.new) (F.overs shelf.old) (F.overs shelf.new) }
-    ensures nothing { (result.code ≡ 3) ⊎ (result.code ≡ 9) → Appended (K.held out.old) (K.held out.new) [] }
-    // A write failed, behind a first part of the text.
+    ensures nothing { result.code ≡ 3 → Appended (K.held out.old) (K.held out.new) [] }
+    // A read failed: the whole lines of what was read were answered.
+    ensures source { result.code ≡ 6 → Rose (S.faults script.old) (S.faults script.new) }
+    ensures broken { result.code ≡ 6 → Held (F.files shelf.old) (asked (map string_bytes words.now.items)) (λ answer. AnsweredWhole answer
+        (S.left script.old) (S.left script.new) (K.held out.old) (K.held out.new)) }
+    // A write failed.
     ensures sink { result.code ≡ 7 → Rose (K.faults out.old) (K.faults out.new) }
-    ensures part { result.code ≡ 7 → WrotePart (F.files shelf.old)
-        (asked (map string_bytes words.now.items)) (K.held out.old) (K.held out.new) }
-    // Where the words, the program and the input are accepted and nothing failed, only memory may be wanting.
+    // The script is too long, exactly where so much of it was read.
+    ensures long { (result.code ≡ 8) ↔ (S.taken script.new ≡ S.taken script.old + 16777217) }
+    ensures much { result.code ≡ 8 → Held (F.files shelf.old) (asked (map string_bytes words.now.items)) (λ answer. AnsweredLong answer
+        (S.left script.old) (S.left script.new) (K.held out.old) (K.held out.new)) }
+    // A session that ends well has read its script up to the end, or up to `quit`.
+    ensures read { (a : Asked) → asked (map string_bytes words.now.items) ≡ Some a → a.mode ≡ Mode.Session → result.code ≡ 0
+        → ReadOut (S.left script.old) (S.left script.new) (S.taken script.old) (S.taken script.new) }
+    // Without a session the script isn't read, and where memory ran out nothing was written.
+    ensures script { IsNoSession (asked (map string_bytes words.now.items)) → script.new ≡ script.old }
+    ensures spare { IsNoSession (asked (map string_bytes words.now.items)) → result.code ≡ 9
+        → Appended (K.held out.old) (K.held out.new) [] }
+    // Where all is accepted and nothing failed, the script is too long or memory is wanting, or all is done.
     ensures complete { AreAccepted (F.files shelf.old) (asked (map string_bytes words.now.items))
         → ¬ (LoadFailed (F.files shelf.old) (asked (map string_bytes words.now.items))
         (F.faults shelf.old) (F.faults shelf.new) (F.overs shelf.old) (F.overs shelf.new))
-        → ¬ (Rose (K.faults out.old) (K.faults out.new)) → (result.code ≡ 0) ⊎ (result.code ≡ 9) }
-    // The script isn't read.
-    ensures script { _script.new ≡ _script.old }
+        → ¬ (Rose (S.faults script.old) (S.faults script.new)) → ¬ (Rose (K.faults out.old) (K.faults out.new))
+        → (result.code ≡ 0) ⊎ (result.code ≡ 8) ⊎ (result.code ≡ 9) }
 {
-    match read_words(words) {
-        Some((program, input)) => run_once(alloc, program, input, shelf, out),
-        None => finish(out, usage_line(), 2),
+    match read_request(alloc, words.as_slice()) {
+        Ok(Some(request)) => run_request(alloc, &request, shelf, script, out),
+        Ok(None) => finish(out, usage_line(), 2),
+        Err(_) => NO_MEMORY,
     }
 }

@@ -1,0 +1,19 @@
+use Rattle.std.proofs.Common.{refl}
+use Rattle.psac_engine.specs.Engine.{world_in}
+use Rattle.psac_run.proofs.open.open.Goals as goal
+
+pub returns-clause-opened : goal.returns-clause-opened
+returns-clause-opened c =
+    record {
+      world = world_in c.in_ok-engine.engine;
+      grid = c.in_ok-grid.grid;
+      opens = record {
+        ids = c.in_ok-consts.consts.items;
+        begun = c.enter_texts.new.texts;
+        enters = record { added = rw (c.as_slice.ensures, c.in_ok-texts.ensures) at c.in_ok-consts.ensures.added };
+        world = c.in_ok-engine.ensures.world;
+        loads = c.in_ok-grid.ensures.taken;
+      };
+      engine = c.in_ok-engine.ensures.opened;
+      engine_world = refl;
+    }
