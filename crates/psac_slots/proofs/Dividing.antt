@@ -209,7 +209,7 @@ module _ {W E : Type 0} (k : Ways W E) where
 
     module _ (strange : (j : ℕ) (u : Rights W E) → j ≢ id → j ≢ other → get_elem? all j ≡ some u → u.live ≡ true → Strangers r.branch u.branch × Strangers s.branch u.branch) where
       -- no third pass has what has this label
-      none_there : (j : ℕ) (u : Rights W E) → j ≢ id → j ≢ other → get_elem? all j ≡ some u → (e : E) → Member e u.shared → k.label e ≡ b → ⊥
+      pub none_there : (j : ℕ) (u : Rights W E) → j ≢ id → j ≢ other → get_elem? all j ≡ some u → (e : E) → Member e u.shared → k.label e ≡ b → ⊥
       none_there j u n o at e h is =
           let ou = d.own j u at in
           let q = ou.labels e h in

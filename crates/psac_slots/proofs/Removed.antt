@@ -1,5 +1,5 @@
 -- Lists of handles from which a slot is taken, and words of handles.
-use Rattle.std.proofs.Common.{◌≡◌, ◌≢◌, ℕ, zero, suc, ◌+◌, ◌/◌, ◌%◌, ◌<◌, ◌≤◌, List, [], ◌∷◌, ◌++◌, length, Bool, true, false, cond, ltb, refl, sym, ap, ◌∙◌, ⊎_elim, arith, length-append}
+use Rattle.std.proofs.Common.{◌≡◌, ◌≢◌, ℕ, zero, suc, ◌+◌, ◌/◌, ◌%◌, ◌<◌, ◌≤◌, List, [], ◌∷◌, ◌++◌, length, Bool, true, false, cond, ltb, refl, sym, ap, ◌∙◌, inl, inr, ⊎_elim, arith, length-append}
 use Rattle.std.specs.Prelude.{◌==◌, not, All}
 use Rattle.std.proofs.lemmas.List.Sums.{sum_by-cons, sum_by_push}
 use Rattle.std.proofs.lemmas.Bool.{eq-eqb, eqb-true, ne_eqb, le-ltb}
@@ -90,3 +90,12 @@ sized-fresh (suc n) l = All-push IsHandle (fresh n) (record { slot = n; generati
 pub slots-fresh : (n s : ℕ) → slot_times s (fresh n) ≡ once_below s n
 slots-fresh zero s = sym (ap (λ (b : Bool). cond b 1 0) (le-ltb s 0 (omega arith)))
 slots-fresh (suc n) s = let p = sum_by_push (λ (h : Handle). cond (h.slot == s) 1 0) (fresh n) (record { slot = n; generation = 1 }) in let o = once_below_more s n in omega (arith, p, o, slots-fresh n s)
+
+found_one : (s : ℕ) (h : Handle) (hs : List Handle) → (0 < slot_times s hs → (x : Handle) × Member x hs × (x.slot ≡ s)) → (b : Bool) → (h.slot == s) ≡ b → 0 < slot_times s (h ∷ hs) → (x : Handle) × Member x (h ∷ hs) × (x.slot ≡ s)
+found_one s h hs more true e p = (h, inl refl, eqb-true h.slot s e)
+found_one s h hs more false e p = let c = sum_by-cons (λ (y : Handle). cond (y.slot == s) 1 0) h hs in let t : bit (h.slot == s) ≡ 0 = ap bit e in let q = more (omega (arith, c, t, p)) in (q.0, inr q.1, q.2)
+
+-- a slot that stands in a list is one of its entries'
+pub found : (s : ℕ) (hs : List Handle) → 0 < slot_times s hs → (x : Handle) × Member x hs × (x.slot ≡ s)
+found s [] p = absurd (omega (arith, p))
+found s (h ∷ hs) p = found_one s h hs (λ q. found s hs q) (h.slot == s) refl p

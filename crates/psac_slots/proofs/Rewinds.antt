@@ -11,7 +11,7 @@ use Rattle.atomic_table.proofs.Lists.{set_here, set_else, one_turn}
 use Rattle.psac_slots.specs.declared.view.ClaimView.{ClaimView}
 use Rattle.psac_ops.specs.declared.plain.Handle.{Handle}
 use Rattle.psac_slots.specs.Handles.{Member, word_of, IsHandle, later, slot_times, removed, once_below}
-use Rattle.psac_slots.specs.Claiming.{weight, times, place, Fits, Claimed, learned, counted, turned, rewound, gave}
+use Rattle.psac_slots.specs.Claiming.{weight, times, place, Fits, Claimed, learned, counted, turned, rewound, returned, gave}
 use Rattle.psac_slots.proofs.Sums.{bit, sum_set, sum_at, sum_none, all_set, at_drop, at_new, at_less}
 use Rattle.psac_slots.proofs.Removed.{member_times, removed_gone, removed_else, removed_length, at_most_once}
 use Rattle.psac_slots.proofs.Keeps.{apart_same, none_beside, idle}
@@ -115,11 +115,12 @@ module _ (count c head : ℕ) (list : List Handle) (words : List ℕ) (views : L
         apart = apart_same views id v w h.apart at live refl;
       }
 
-  -- a slot goes behind the list
-  pub gives_at : c ≡ 0 → (x : Handle) → Member x v.held → x.generation < 4294967295
-      → Claimed count c head (list ++ later x ∷ []) (set words (place count (head + length list)) (word_of (later x))) (set views id (gave x v))
-  gives_at none x has next =
-      let w = gave x v in
+  -- a slot goes behind the list, with some generation
+  pub returns_at : c ≡ 0 → (x : Handle) → Member x v.held → (g : ℕ) → g < 4294967296
+      → (let y : Handle = record { slot = x.slot; generation = g } in Claimed count c head (list ++ y ∷ []) (set words (place count (head + length list)) (word_of y)) (set views id (returned y v)))
+  returns_at none x has g next =
+      let y : Handle = record { slot = x.slot; generation = g } in
+      let w = returned y v in
       let f = h.each id v at in
       let here = member_times x v.held has in
       let once = at_most_once x.slot count in
@@ -127,9 +128,9 @@ module _ (count c head : ℕ) (list : List Handle) (words : List ℕ) (views : L
       let one = h.slots x.slot in
       let len = removed_length x.slot v.held in
       let d : drop c list ≡ list = ap (λ (k : ℕ). drop k list) none in
-      let d' : drop c (list ++ later x ∷ []) ≡ list ++ later x ∷ [] = ap (λ (k : ℕ). drop k (list ++ later x ∷ [])) none in
+      let d' : drop c (list ++ y ∷ []) ≡ list ++ y ∷ [] = ap (λ (k : ℕ). drop k (list ++ y ∷ [])) none in
       let dl = ap length d in
-      let longer = length-append list (later x ∷ []) in
+      let longer = length-append list (y ∷ []) in
       let every = h.all in
       let held = sum_at (λ (u : ClaimView). length u.held) views id v at in
       let room : length list < count = omega (arith, every, held, dl, len, here) in
@@ -138,39 +139,39 @@ module _ (count c head : ℕ) (list : List Handle) (words : List ℕ) (views : L
       let low : p < length words = let m = mod-lt (head + length list) {m = count} (omega (arith, room)) in omega (arith, m, long) in
       let size : x.slot < 4294967296 = small in
       record {
-        long = (let b = length-set words p (word_of (later x)) in omega (arith, long, b));
+        long = (let b = length-set words p (word_of y) in omega (arith, long, b));
         head_low = h.head_low;
-        counter_is = set_else words p 0 (word_of (later x)) (λ q. absurd (omega (arith, q))) ∙ h.counter_is;
-        stored = λ k y e. ⊎_elim
-            (λ (o : (k < length list) × (get_elem? list k ≡ some y)). set_else words p (place count (head + k)) (word_of (later x))
+        counter_is = set_else words p 0 (word_of y) (λ q. absurd (omega (arith, q))) ∙ h.counter_is;
+        stored = λ k z e. ⊎_elim
+            (λ (o : (k < length list) × (get_elem? list k ≡ some z)). set_else words p (place count (head + k)) (word_of y)
             (λ q. let b = o.0 in let t = one_turn (head + k) (head + length list) count (omega (arith, b)) (omega (arith, b, room)) (omega (arith, q)) in absurd (omega (arith, t, b)))
-            ∙ h.stored k y o.1)
-            (λ (o : (k ≡ length list) × (later x ≡ y)). subst (λ i. get_elem? (set words p (word_of (later x))) i ≡ some (word_of y)) (ap (λ (i : ℕ). place count (head + i)) (sym o.0))
-            (set_here words p (word_of (later x)) low ∙ ap (λ z. some (word_of z)) o.1))
-            (at_new list (later x) y k e);
-        sized = All-push IsHandle list (later x) h.sized (size, omega (arith, next));
+            ∙ h.stored k z o.1)
+            (λ (o : (k ≡ length list) × (y ≡ z)). subst (λ i. get_elem? (set words p (word_of y)) i ≡ some (word_of z)) (ap (λ (i : ℕ). place count (head + i)) (sym o.0))
+            (set_here words p (word_of y) low ∙ ap (λ (q : Handle). some (word_of q)) o.1))
+            (at_new list y z k e);
+        sized = All-push IsHandle list (y) h.sized (size, omega (arith, next));
         room = (omega (arith, longer, room), h.room.1);
         weights = let a = sum_set weight views id v w at in let t : weight w ≡ weight v = refl in let b = h.weights in omega (arith, a, b, t);
         over = let a = sum_set (λ (u : ClaimView). u.over) views id v w at in let o = h.over in omega (arith, a, o, none);
         drawn = λ k. let a = sum_set (λ (u : ClaimView). times k u.drawn) views id v w at in omega (arith, a, h.drawn k);
         slots = λ z. let a = sum_set (λ (u : ClaimView). slot_times z u.held) views id v w at in
-            let b = sum_by_push (λ (q : Handle). cond (q.slot == z) 1 0) list (later x) in
+            let b = sum_by_push (λ (q : Handle). cond (q.slot == z) 1 0) list (y) in
             let e = ap (slot_times z) d' in
-            let g = ap (slot_times z) d in
+            let i = ap (slot_times z) d in
             ⊎_elim
             (λ (same : z ≡ x.slot). let t : bit (x.slot == z) ≡ 1 = ap bit (eq-eqb x.slot z (sym same)) in
             let r : slot_times z (removed x.slot v.held) ≡ 0 = ap (λ k. slot_times k (removed x.slot v.held)) same ∙ removed_gone x.slot v.held in
             let r' : slot_times z v.held ≡ 1 = ap (λ k. slot_times k v.held) same ∙ omega (arith, here, once, whole, one) in
-            let o = h.slots z in omega (arith, a, b, e, g, t, r, r', o))
+            let o = h.slots z in omega (arith, a, b, e, i, t, r, r', o))
             (λ (other : z ≢ x.slot). let t : bit (x.slot == z) ≡ 0 = ap bit (ne_eqb x.slot z (λ q. other (sym q))) in
             let r = removed_else z x.slot v.held other in
-            let o = h.slots z in omega (arith, a, b, e, g, t, r, o))
+            let o = h.slots z in omega (arith, a, b, e, i, t, r, o))
             (cases_eq z x.slot);
         all = let a = sum_set (λ (u : ClaimView). length u.held) views id v w at in let e = ap length d' in
             omega (arith, a, e, dl, longer, every, len, here, once, whole, one);
-        each = all_set (λ _ u. Fits count c head (list ++ later x ∷ []) u) views id w
-            record { over = f.over; count_is = f.count_is; head_is = f.head_is; list_is = λ l. ap (λ z. z ++ later x ∷ []) (f.list_is l); short = f.short; gone = λ z. absurd (true≢false (sym live ∙ z)); sole = f.sole }
-            (λ j u n e. idle count c c head head list (list ++ later x ∷ []) u (alone j u n e) (h.each j u e));
+        each = all_set (λ _ u. Fits count c head (list ++ y ∷ []) u) views id w
+            record { over = f.over; count_is = f.count_is; head_is = f.head_is; list_is = λ l. ap (λ z. z ++ y ∷ []) (f.list_is l); short = f.short; gone = λ z. absurd (true≢false (sym live ∙ z)); sole = f.sole }
+            (λ j u n e. idle count c c head head list (list ++ y ∷ []) u (alone j u n e) (h.each j u e));
         apart = apart_same views id v w h.apart at live refl;
       }
     where
@@ -179,3 +180,8 @@ module _ (count c head : ℕ) (list : List Handle) (words : List ℕ) (views : L
           (λ (g : count ≤ x.slot). let z : once_below x.slot count ≡ 0 = ap (λ (b : Bool). cond b 1 0) (le-ltb x.slot count g) in
           let here = member_times x v.held has in let whole = sum_at (λ (u : ClaimView). slot_times x.slot u.held) views id v at in let one = h.slots x.slot in absurd (omega (arith, z, here, whole, one)))
           (cases_lt x.slot count)
+
+  -- and with the next one
+  pub gives_at : c ≡ 0 → (x : Handle) → Member x v.held → x.generation < 4294967295
+      → Claimed count c head (list ++ later x ∷ []) (set words (place count (head + length list)) (word_of (later x))) (set views id (gave x v))
+  gives_at none x has next = returns_at none x has (suc x.generation) (omega (arith, next))

@@ -108,6 +108,10 @@ rewound v = record v {
   counter = Some 0;
 }
 
+-- the slot of the handle is free again, with the handle's generation, behind all others
+abbrev pub returned : Handle → ClaimView → ClaimView
+returned h v = record v { list = v.list ++ h ∷ []; held = removed h.slot v.held }
+
 -- the slot is free again, with the next generation, behind all others
 abbrev pub gave : Handle → ClaimView → ClaimView
-gave h v = record v { list = v.list ++ later h ∷ []; held = removed h.slot v.held }
+gave h v = returned (later h) v

@@ -7,3 +7,4 @@ pub mod Steps
 pub mod Divided
 pub mod Carried
 pub mod Promised
+pub mod Given

@@ -109,6 +109,7 @@ impl Claims {
         ensures table { pass.new.table ≡ pass.old.table }
         ensures ok { IfOk result (λ h. Claimed pass.old.knows h pass.new.knows) }
         ensures fresh { IfOk result (λ h. slot_times h.slot pass.old.knows.held ≡ 0) }
+        ensures room { IfOk result (λ _. pass.new.knows.over ≡ 0) }
         ensures full { IfErr result (λ f. (f.room ≡ length pass.old.knows.list) × (f.room ≤ f.index) × (pass.new.knows ≡ drew pass.old.knows f.index)) }
     {
         let index = self.table.shared.fetch_add::<Draws>(&mut pass.seat, 0, 1);

@@ -1,3 +1,6 @@
+ghost use Rattle.std.specs.Prelude.{◌≡◌, true};
+ghost use Rattle.psac_slots.specs.Claiming.{IsSole};
+
 use super::*;
 use std::test::Fail;
 
@@ -38,13 +41,63 @@ fn slots_are_drawn_in_order_and_come_back_later(rt: HostRuntime) -> Result<(), F
     Ok(())
 }
 
+// Claims a slot and gives it back.
+fn claim_and_give(claims: &Claims, pass: &mut ClaimPass) -> bool
+    requires table { pass.old.table ≡ claims.now }
+    requires sole { IsSole pass.old.knows }
+    requires room { pass.old.knows.over ≡ 0 }
+    ensures table { pass.new.table ≡ pass.old.table }
+    ensures sole { result ≡ true → IsSole pass.new.knows }
+    ensures room { result ≡ true → pass.new.knows.over ≡ 0 }
+{
+    let Ok(handle) = claims.claim(pass) else {
+        return false;
+    };
+    if handle.generation == u32::MAX {
+        return false;
+    }
+    claims.give(pass, handle);
+    true
+}
+
+// Two claims, and what a third one says.
+fn claim_past_two(claims: &Claims, pass: &mut ClaimPass) -> Option<([Handle; 2], Full)>
+    requires table { pass.old.table ≡ claims.now }
+    requires room { pass.old.knows.over ≡ 0 }
+{
+    let Ok(first) = claims.claim(pass) else {
+        return None;
+    };
+    let Ok(second) = claims.claim(pass) else {
+        return None;
+    };
+    let Err(full) = claims.claim(pass) else {
+        return None;
+    };
+    Some(([first, second], full))
+}
+
 #[test]
-fn the_first_claim_is_the_first_slot(rt: HostRuntime) -> Result<(), Fail> {
+fn slots_come_back_in_the_order_of_giving(rt: HostRuntime) -> Result<(), Fail> {
     let (claims, mut pass) = Claims::new(rt.alloc(), 2)?;
-    let first = claims.claim(&mut pass).ok();
-    assert!(rt; first == Some(FIRST));
+    let gave = claim_and_give(&claims, &mut pass);
+    assert!(rt; gave);
+    let gave = claim_and_give(&claims, &mut pass);
+    assert!(rt; gave);
+    let ([first, second], full) = claim_past_two(&claims, &mut pass).expect(&rt, "two slots");
+    assert!(rt; first.slot == 0 && first.generation == 2);
+    assert!(rt; second.slot == 1 && second.generation == 2);
+    assert!(rt; full.index == 2 && full.room == 2);
+    Ok(())
+}
+
+#[test]
+fn a_pass_is_split_and_joined(rt: HostRuntime) -> Result<(), Fail> {
     let (claims, pass) = Claims::new(rt.alloc(), 2)?;
     let (left, right) = claims.fork(pass);
-    let _pass = claims.regain(claims.join(left, right));
+    let mut pass = claims.regain(claims.join(left, right));
+    claims.rewind(&mut pass);
+    let first = claims.claim(&mut pass).ok();
+    assert!(rt; first == Some(FIRST));
     Ok(())
 }

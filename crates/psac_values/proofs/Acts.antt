@@ -22,8 +22,8 @@ use Rattle.psac_slots.proofs.Removed.{one_word}
 use Rattle.psac_values.specs.Valued.{free_word}
 use Rattle.psac_values.specs.Steps.{Lacks, left_of, right_of, met, spent, learned, Learned, rewound, Rewound, gave, Gave, Settled}
 use Rattle.atomic_table.specs.Table.{Splits, Joins}
-use Rattle.psac_values.proofs.Keeps.{at_claims, draws_at, new_lacks, new_low, quiet_at, writes_at, marks_at, apart_places}
-use Rattle.psac_values.proofs.Soles.{nothing_known, free_state, learns_at, rewinds_at, gives_at}
+use Rattle.psac_values.proofs.Keeps.{lacks, at_claims, draws_at, new_lacks, new_low, quiet_at, writes_at, marks_at, apart_places}
+use Rattle.psac_values.proofs.Soles.{nothing_known, all_held, free_state, learns_at, rewinds_at, gives_at}
 use Rattle.psac_values.proofs.Sides.{splits_at, joins_at}
 
 module _ (fixed count : ℕ) where
@@ -62,7 +62,7 @@ module _ (fixed count : ℕ) where
           free = λ c k knows low none is.
               let p = slots.sole_parts v.claims.counter h.0 c v.claims knows g.sole in
               let q = free_state fixed count h.0 h.1 h.2 s.words s.views h.3 id v at live p.2 k (subst (λ m. k < m) count_is low) none in
-              (q.0, word (state_at count k) (2 * q.0) (is ∙ ap (λ m. state_at m k) count_is) q.1);
+              (q.0, word (state_at count k) (2 * q.0) (is ∙ ap (λ m. state_at m k) count_is) q.1, subst (λ m. Lacks v (m + k)) (sym (f.fixed_is live)) (lacks fixed count h.0 h.1 h.2 s.words s.views h.3 k (all_held fixed count h.0 h.1 h.2 s.words s.views h.3 id v at live p.2 k ∙ none) id v at));
           once = old.once;
           room = old.room;
           held_is = f.held_is;

@@ -24,7 +24,8 @@ use Rattle.psac_values.specs.Steps.{Tells, looked, put, wrote_word, mark, marked
 use Rattle.psac_values.specs.Knowing.{Knows, all_words, rewritten, took, United, IsOut}
 use Rattle.psac_values.specs.Carried.{Carries}
 use Rattle.psac_values.proofs.Keeps.{back_again, mark_of}
-use Rattle.psac_values.proofs.Soles.{filtered, found}
+use Rattle.psac_values.proofs.Soles.{filtered}
+use Rattle.psac_slots.proofs.Removed.{found}
 
 module _ (fixed count head room words : ℕ) (v : ValueView) (p : Carries fixed count head room words v) where
   -- the same ring and the same sizes

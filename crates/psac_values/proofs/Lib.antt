@@ -5,3 +5,4 @@ pub mod Sides
 pub mod Acts
 pub mod Carrying
 pub mod Opens
+pub mod Giving

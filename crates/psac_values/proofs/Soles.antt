@@ -1,8 +1,7 @@
 -- The steps of a sole pass keep the rule of values.
-use Rattle.std.proofs.Common.{◌≡◌, ◌≢◌, ℕ, zero, suc, ◌+◌, ◌-◌, ◌*◌, ◌<◌, ◌≤◌, List, [], ◌∷◌, ◌++◌, map, length, set, take, drop, Bool, true, false, true≢false, cond, refl, sym, ap, ◌∙◌, subst, inl, inr, ⊎_elim, arith, Some, length-set, mod-lt}
+use Rattle.std.proofs.Common.{◌≡◌, ◌≢◌, ℕ, zero, suc, ◌+◌, ◌-◌, ◌*◌, ◌<◌, ◌≤◌, List, [], ◌∷◌, ◌++◌, map, length, set, take, drop, Bool, true, false, true≢false, cond, refl, sym, ap, ◌∙◌, subst, inl, ⊎_elim, arith, Some, length-set, mod-lt}
 use Rattle.std.specs.Prelude.{filter, not, ◌==◌}
-use Rattle.std.proofs.lemmas.Bool.{eq-eqb, eqb-true, lt-ltb}
-use Rattle.std.proofs.lemmas.List.Sums.{sum_by-cons}
+use Rattle.std.proofs.lemmas.Bool.{eq-eqb, lt-ltb}
 use mathlib.Core.Option.{some}
 use lib.ListN.{get_elem?}
 use Rattle.atomic_table.proofs.Lists.{at_map, set_else}
@@ -13,7 +12,7 @@ use Rattle.psac_slots.specs.Claiming as claiming
 use Rattle.psac_slots.proofs.Rewinds as turns
 use Rattle.psac_slots.proofs.Sums.{bit, sum_set, sum_none, all_set, at_drop, at_new}
 use Rattle.psac_slots.proofs.Pairs.{member_filter}
-use Rattle.psac_slots.proofs.Removed.{removed_else}
+use Rattle.psac_slots.proofs.Removed.{found, removed_else}
 use Rattle.psac_slots.proofs.Dividing.{changes, off}
 use Rattle.psac_values.specs.declared.view.KnownView.{KnownView}
 use Rattle.psac_values.specs.declared.view.StateView.{StateView}
@@ -35,15 +34,6 @@ filtered_one s t ts r false e = ap (λ l. t.of ∷ l) r
 pub filtered : (s : ℕ) (ts : List StateView) → map handle_of (filter (other_state s) ts) ≡ removed s (map handle_of ts)
 filtered s [] = refl
 filtered s (t ∷ ts) = filtered_one s t ts (filtered s ts) (t.of.slot == s) refl
-
-found_one : (s : ℕ) (h : Handle) (hs : List Handle) → (0 < slot_times s hs → (x : Handle) × Member x hs × (x.slot ≡ s)) → (b : Bool) → (h.slot == s) ≡ b → 0 < slot_times s (h ∷ hs) → (x : Handle) × Member x (h ∷ hs) × (x.slot ≡ s)
-found_one s h hs more true e p = (h, inl refl, eqb-true h.slot s e)
-found_one s h hs more false e p = let c = sum_by-cons (λ (y : Handle). cond (y.slot == s) 1 0) h hs in let t : bit (h.slot == s) ≡ 0 = ap bit e in let q = more (omega (arith, c, t, p)) in (q.0, inr q.1, q.2)
-
--- a slot that stands in a list is one of its entries'
-pub found : (s : ℕ) (hs : List Handle) → 0 < slot_times s hs → (x : Handle) × Member x hs × (x.slot ≡ s)
-found s [] p = absurd (omega (arith, p))
-found s (h ∷ hs) p = found_one s h hs (λ q. found s hs q) (h.slot == s) refl p
 
 pub dropped_at : (l : List Handle) (c : ℕ) (x : Handle) → Member x (drop c l) → (k : ℕ) × (c ≤ k) × (get_elem? l k ≡ some x)
 dropped_at [] zero x m = absurd m

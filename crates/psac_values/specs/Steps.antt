@@ -1,10 +1,11 @@
 -- What each step makes of a view, and what it tells.
-use Rattle.std.specs.Prelude.{◌≡◌, ◌≢◌, ℕ, zero, suc, ◌+◌, ◌*◌, ◌<◌, ◌≤◌, List, [], ◌∷◌, ◌++◌, map, filter, length, set, drop, Bool, cond, not, ◌==◌, Some, None, IfSome}
+use Rattle.std.specs.Prelude.{◌≡◌, ◌≢◌, ℕ, zero, suc, ◌+◌, ◌*◌, ◌<◌, ◌≤◌, List, [], ◌∷◌, ◌++◌, map, filter, length, set, drop, Bool, cond, not, ltb, ◌==◌, Some, None, IfSome}
 use mathlib.Core.Option.{some}
 use lib.ListN.{get_elem?}
 use Rattle.atomic_table.specs.Table.{Step, Me}
 use Rattle.psac_ops.specs.declared.plain.Handle.{Handle}
-use Rattle.psac_slots.specs.Handles.{Member, word_of, fresh, IsHandle, later, IsDistinct, slot_times}
+use Rattle.psac_slots.specs.Handles.{Member, word_of, fresh, IsHandle, later, IsDistinct, slot_times, removed}
+use Rattle.psac_slots.specs.Given.{only, by_slot}
 use Rattle.psac_slots.specs.Branches.{stem}
 use Rattle.psac_slots.specs.Divided.{stays, goes, lends, above, comes_back}
 use Rattle.psac_slots.specs.Claiming as claiming
@@ -67,8 +68,8 @@ pub record Tells (v : ValueView) (i n : ℕ) : Type 0 where
   pub mine : (w : OwnedView) (j x : ℕ) → Member w v.mine → i ≡ value_at v.claims.count w.of.slot j → get_elem? w.words j ≡ some (Some x) → n ≡ x
   pub known : (e : KnownView) (j x : ℕ) → Member e v.known → i ≡ value_at v.claims.count e.of.slot j → get_elem? e.words j ≡ some (Some x) → n ≡ x
   pub state : (t : StateView) → Member t v.states → i ≡ state_at v.claims.count t.of.slot → n ≡ t.word
-  -- to a sole pass, what it doesn't hold is free
-  pub free : (c s : ℕ) → v.claims.counter ≡ Some c → s < v.claims.count → slot_times s v.claims.held ≡ 0 → i ≡ state_at v.claims.count s → (g : ℕ) × (n ≡ 2 * g)
+  -- to a sole pass, what it doesn't hold is free, and it has none of its words
+  pub free : (c s : ℕ) → v.claims.counter ≡ Some c → s < v.claims.count → slot_times s v.claims.held ≡ 0 → i ≡ state_at v.claims.count s → (g : ℕ) × (n ≡ 2 * g) × Lacks v (v.fixed + s)
   pub once : IsDistinct v.claims.held
   pub room : (c : ℕ) → v.claims.counter ≡ Some c → length (drop c v.claims.list) + length v.claims.held ≤ v.claims.count
   pub held_is : map handle_of v.states ≡ v.claims.held
@@ -124,6 +125,25 @@ other_state s t = not (t.of.slot == s)
 -- a made slot is free again, with the next generation
 abbrev pub gave : Handle → ValueView → ValueView
 gave h v = record v { claims = claiming.gave h v.claims; mine = filter (other_owned (v.fixed + h.slot)) v.mine; states = filter (other_state h.slot) v.states }
+
+-- a made slot is free again, with the next generation, if it was out
+abbrev pub gave_slot : ℕ → ValueView → ValueView
+gave_slot s v = record v {
+  claims = record v.claims { list = v.claims.list ++ map later (only s v.claims.held); held = removed s v.claims.held };
+  mine = filter (other_owned (v.fixed + s)) v.mine;
+  states = filter (other_state s) v.states;
+}
+
+abbrev pub is_fixed : ℕ → OwnedView → Bool
+is_fixed fixed w = ltb w.of.slot fixed
+
+-- all made slots that were out are free again, lower ones first
+abbrev pub gave_all : ValueView → ValueView
+gave_all v = record v {
+  claims = record v.claims { list = v.claims.list ++ map later (by_slot v.claims.count v.claims.held); held = [] };
+  mine = filter (is_fixed v.fixed) v.mine;
+  states = [];
+}
 
 abbrev pub Gave : Step (Unit {0}) → Seat → ℕ → Seat → Type 0
 Gave s v n w = (h : Handle) → Member h v.0.claims.held → h.generation < 4294967295 → s.first ≡ word_of (later h) → w ≡ (gave h v.0, v.1)

@@ -4,7 +4,7 @@ ghost use Rattle.atomic_table.specs.Seated.{TableId};
 ghost use Rattle.psac_slots.specs.Handles.{Member, IsDistinct};
 ghost use Rattle.psac_slots.specs.Passes.{Pass};
 ghost use Rattle.psac_slots.specs.Claiming as claiming;
-ghost use Rattle.psac_values.specs.Steps.{first_view, drew, looked, left_of, right_of, joined, learned, rewound, gave, Lacks};
+ghost use Rattle.psac_values.specs.Steps.{first_view, drew, looked, left_of, right_of, joined, learned, rewound, gave, gave_slot, gave_all, Lacks};
 ghost use Rattle.psac_values.specs.Knowing.{Has, Knows, three_of, wrote, Claims, United, IsOut, IsLive, claimed_as};
 
 use crate::view::{
@@ -287,6 +287,57 @@ impl Values {
         ensures gave { pass.new.knows ≡ gave (claimed_as m pass.old.knows) (rewound pass.old.knows) }
     {
         self.rewind(pass);
+        self.put_back(pass, m);
+    }
+
+    /// Every made modifiable that is out is free again with the next generation, lower slots first, behind all others.
+    /// The list begins anew, and the pass has the fixed slots alone, with the words that it knew of them.
+    pub fn give_all(&self, pass: &mut ValuePass)
+        requires table { pass.old.table ≡ self.now }
+        requires sole { claiming.IsSole pass.old.knows.claims }
+        requires next { (h : Handle) → Member h pass.old.knows.claims.held → h.generation < 4294967295 }
+        ensures table { pass.new.table ≡ pass.old.table }
+        ensures gave { pass.new.knows ≡ gave_all (rewound pass.old.knows) }
+    {
+        self.rewind(pass);
+        let count = pass.count;
+        for slot in 0..count {
+            self.give_slot(pass, slot);
+        }
+    }
+
+    // The list has begun anew. A made slot is free from here on, if it was out.
+    fn give_slot(&self, pass: &mut ValuePass, slot: u32)
+        requires table { pass.old.table ≡ self.now }
+        requires begun { pass.old.knows.claims.counter ≡ Some 0 }
+        requires below { slot < pass.old.knows.claims.count }
+        requires next { (h : Handle) → Member h pass.old.knows.claims.held → h.generation < 4294967295 }
+        requires room { length pass.old.knows.claims.list + length pass.old.knows.claims.held ≤ pass.old.knows.claims.count }
+        ensures table { pass.new.table ≡ pass.old.table }
+        ensures gave { pass.new.knows ≡ gave_slot slot pass.old.knows }
+        ensures room { length pass.new.knows.claims.list + length pass.new.knows.claims.held ≤ pass.new.knows.claims.count }
+    {
+        let state = pass.count as usize + slot as usize + 1;
+        let word = self.table.shared.load::<Loads>(&mut pass.seat, state);
+        if word % 2 == 1 {
+            let m = Handle {
+                slot: pass.fixed + slot,
+                generation: (word / 2) as u32,
+            };
+            self.put_back(pass, m);
+        }
+    }
+
+    // The list has begun anew. The slot is free again with the next generation, behind all others.
+    fn put_back(&self, pass: &mut ValuePass, m: Handle)
+        requires table { pass.old.table ≡ self.now }
+        requires begun { pass.old.knows.claims.counter ≡ Some 0 }
+        requires out { IsOut m pass.old.knows }
+        requires next { m.generation < 4294967295 }
+        requires room { length pass.old.knows.claims.list + length pass.old.knows.claims.held ≤ pass.old.knows.claims.count }
+        ensures table { pass.new.table ≡ pass.old.table }
+        ensures gave { pass.new.knows ≡ gave (claimed_as m pass.old.knows) pass.old.knows }
+    {
         let slot = m.slot - pass.fixed;
         let generation = u64::from(m.generation) + 1;
         let state = pass.count as usize + slot as usize + 1;

@@ -1,4 +1,4 @@
-use Rattle.std.proofs.Common.{◌≡◌, ℕ, ◌+◌, ◌-◌, ◌++◌, ◌∷◌, [], false, length, ap, ◌∙◌, arith, length-append}
+use Rattle.std.proofs.Common.{◌∷◌, [], false, length, ap, ◌∙◌, arith, length-append}
 use Rattle.psac_slots.specs.Branches.{stem}
 use Rattle.psac_slots.proofs.Turns.{stem_push}
 use Rattle.psac_fork.proofs.pass.Pass.join.Goals as goal

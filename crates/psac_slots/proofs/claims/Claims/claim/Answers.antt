@@ -1,4 +1,5 @@
-use Rattle.std.proofs.Common.{ℕ, suc, ◌++◌, ◌≤◌, ◌+◌, ◌%◌, ◌<◌, ◌≡◌, length, sym, ap, subst, ◌∙◌, arith, mod-lt}
+use Rattle.std.proofs.Common.{ℕ, suc, ◌++◌, ◌≤◌, ◌+◌, ◌%◌, ◌<◌, ◌≡◌, length, sym, ap, subst, ◌∙◌, arith, mod-lt, cond, ltb}
+use Rattle.std.proofs.lemmas.Bool.{lt-ltb}
 use lib.ListN.{get_elem?}
 use Rattle.psac_slots.specs.Handles.{slot_times}
 use Rattle.psac_slots.specs.Claiming.{drew, entry}
@@ -64,3 +65,10 @@ returns-clause-fresh c =
     let l = c.load-word.ensures.2 in
     let held = ap (λ v. v.held) r.2 ∙ ap (λ e. c.args.pass.now.knows.held ++ e) r.3 in
     last_new c.args.pass.now.knows.held _ (λ s. subst (λ hs. slot_times s hs ≤ 1) held (subst (λ m. slot_times s m.0.held ≤ 1) (sym l.same) (l.once s)))
+
+-- a claim below the room leaves the pass with no index past it
+within : (n over room : ℕ) → n < room → over ≡ 0 → over + cond (ltb n room) 0 1 ≡ 0
+within n over room l e = rw (lt-ltb n room l) (omega (arith, e))
+
+pub returns-clause-room : goal.returns-clause-room
+returns-clause-room c = let r = returns-clause-ok c in ap (λ v. v.over) r.2 ∙ within r.0 c.args.pass.now.knows.over (length c.args.pass.now.knows.list) r.1 c.requires.room

@@ -11,7 +11,7 @@ use Rattle.psac_values.specs.Knowing.{IsOut}
 use Rattle.psac_values.specs.Carried.{Carries}
 use Rattle.psac_values.proofs.Acts.{marks, gives}
 use Rattle.psac_values.proofs.Carrying.{state_of, has_room, gave_marked, carries_gave}
-use Rattle.psac_values.proofs.values.Values.give.Goals as goal
+use Rattle.psac_values.proofs.values.Values.put_back.Goals as goal
 
 one_more : (n : ℕ) → n + 1 ≡ suc n
 one_more n = omega arith
@@ -25,7 +25,7 @@ store-requires c =
     let v = c.pass.inside.seat.me.0 in
     let old = c.args.pass.now.knows in
     let is = ap (λ p. p.knows) c.pass.view_is in
-    let e = is ∙ c.rewind.ensures.rewound in
+    let e = is in
     let o = subst (λ (v : ValueView). IsOut c.args.m v) (sym e) c.requires.out in
     let h = o.0 in
     let sl = ap (λ (k : Handle). k.slot) o.2 in
@@ -35,10 +35,10 @@ store-requires c =
     let st = state_of _ _ _ _ _ v p h o.1 in
     let ts = ap (λ (k : Handle). k.slot) st.2 in
     let low = (p.out st.0 st.1).1 in
-    let fit = subst (λ (v : ValueView). length v.claims.list + length v.claims.held ≤ v.claims.count) (sym is) c.rewind.ensures.room in
+    let fit = subst (λ (v : ValueView). length v.claims.list + length v.claims.held ≤ v.claims.count) (sym is) c.requires.room in
     let room = has_room _ _ _ _ _ v h p o.1 fit in
     let spot : c.pass.inside.count + (c.args.m.slot - c.pass.inside.fixed) + 1 ≡ state_at v.claims.count h.slot = omega (arith, k, sl, fx) in
-    let t = ap (λ p. p.table) c.pass.view_is ∙ (c.rewind.ensures.table ∙ (c.requires.table ∙ sym c.self.view_is)) in
+    let t = ap (λ p. p.table) c.pass.view_is ∙ (c.requires.table ∙ sym c.self.view_is) in
     let w = ap (λ z. z.words) t in
     let z = p.words_is in
     let there : c.pass.inside.count + (c.args.m.slot - c.pass.inside.fixed) + 1 ≡ state_at v.claims.count st.0.of.slot = omega (arith, k, sl, fx, ts) in
@@ -50,7 +50,7 @@ store-requires-2 c =
     let v = c.pass.inside.seat.me.0 in
     let old = c.args.pass.now.knows in
     let is = ap (λ p. p.knows) c.pass.view_is in
-    let e = is ∙ c.rewind.ensures.rewound in
+    let e = is in
     let o = subst (λ (v : ValueView). IsOut c.args.m v) (sym e) c.requires.out in
     let h = o.0 in
     let sl = ap (λ (k : Handle). k.slot) o.2 in
@@ -60,10 +60,10 @@ store-requires-2 c =
     let st = state_of _ _ _ _ _ v p h o.1 in
     let ts = ap (λ (k : Handle). k.slot) st.2 in
     let low = (p.out st.0 st.1).1 in
-    let fit = subst (λ (v : ValueView). length v.claims.list + length v.claims.held ≤ v.claims.count) (sym is) c.rewind.ensures.room in
+    let fit = subst (λ (v : ValueView). length v.claims.list + length v.claims.held ≤ v.claims.count) (sym is) c.requires.room in
     let room = has_room _ _ _ _ _ v h p o.1 fit in
     let spot : c.pass.inside.count + (c.args.m.slot - c.pass.inside.fixed) + 1 ≡ state_at v.claims.count h.slot = omega (arith, k, sl, fx) in
-    let t = ap (λ p. p.table) c.pass.view_is ∙ (c.rewind.ensures.table ∙ (c.requires.table ∙ sym c.self.view_is)) in
+    let t = ap (λ p. p.table) c.pass.view_is ∙ (c.requires.table ∙ sym c.self.view_is) in
     let w = ap (λ z. z.words) t in
     let z = p.words_is in
     let x = 2 * (c.from-generation.result + 1) in
@@ -79,7 +79,7 @@ store-requires-2 c =
     let here : (c.from.result + c.from-2.result) % c.from-3.result + 1 ≡ place v1.claims.count (v1.claims.head + length v1.claims.list) = one_more _ ∙ (λ j. suc (((c.from.ensures ∙ (sym p.head_is ∙ sym (ap (λ (u : ValueView). u.claims.head) g))) j + (c.from-2.ensures ∙ (sym p.room_is ∙ sym (ap (λ (u : ValueView). length u.claims.list) g))) j) % (c.from-3.ensures ∙ (sym p.count_is ∙ sym (ap (λ (u : ValueView). u.claims.count) g))) j)) in
     let q4 = c.from-4.ensures in
     let stored : (c.from-generation.result + 1) * 4294967296 + c.from-4.result ≡ word_of (later h) = omega (arith, ga, ge, q4, sl, fx) in
-    (s.0 ∙ t, omega (arith, w, z, m, q3), gives _ _ _ _ _ _ v1 c.store.new.seat.me.1 h (ap (λ (u : ValueView). u.claims.counter) (g ∙ ap (marked h.slot x) e)) (subst (λ (u : ValueView). Member h u.claims.held) (sym g) o.1) (let n = c.requires.next in omega (arith, ge, n)) t1 mt st.2 word here stored)
+    (s.0 ∙ t, omega (arith, w, z, m, q3), gives _ _ _ _ _ _ v1 c.store.new.seat.me.1 h (ap (λ (u : ValueView). u.claims.counter) (g ∙ ap (marked h.slot x) e) ∙ c.requires.begun) (subst (λ (u : ValueView). Member h u.claims.held) (sym g) o.1) (let n = c.requires.next in omega (arith, ge, n)) t1 mt st.2 word here stored)
 
 pub returns-clause-gave : goal.returns-clause-gave
 returns-clause-gave c =
@@ -87,7 +87,7 @@ returns-clause-gave c =
     let v = c.pass.inside.seat.me.0 in
     let old = c.args.pass.now.knows in
     let is = ap (λ p. p.knows) c.pass.view_is in
-    let e = is ∙ c.rewind.ensures.rewound in
+    let e = is in
     let o = subst (λ (v : ValueView). IsOut c.args.m v) (sym e) c.requires.out in
     let h = o.0 in
     let sl = ap (λ (k : Handle). k.slot) o.2 in
@@ -97,7 +97,7 @@ returns-clause-gave c =
     let st = state_of _ _ _ _ _ v p h o.1 in
     let ts = ap (λ (k : Handle). k.slot) st.2 in
     let low = (p.out st.0 st.1).1 in
-    let fit = subst (λ (v : ValueView). length v.claims.list + length v.claims.held ≤ v.claims.count) (sym is) c.rewind.ensures.room in
+    let fit = subst (λ (v : ValueView). length v.claims.list + length v.claims.held ≤ v.claims.count) (sym is) c.requires.room in
     let room = has_room _ _ _ _ _ v h p o.1 fit in
     let spot : c.pass.inside.count + (c.args.m.slot - c.pass.inside.fixed) + 1 ≡ state_at v.claims.count h.slot = omega (arith, k, sl, fx) in
     let x = 2 * (c.from-generation.result + 1) in
@@ -118,7 +118,7 @@ invariant_of-pass c =
     let v = c.pass.inside.seat.me.0 in
     let old = c.args.pass.now.knows in
     let is = ap (λ p. p.knows) c.pass.view_is in
-    let e = is ∙ c.rewind.ensures.rewound in
+    let e = is in
     let o = subst (λ (v : ValueView). IsOut c.args.m v) (sym e) c.requires.out in
     let h = o.0 in
     let sl = ap (λ (k : Handle). k.slot) o.2 in
@@ -128,7 +128,7 @@ invariant_of-pass c =
     let st = state_of _ _ _ _ _ v p h o.1 in
     let ts = ap (λ (k : Handle). k.slot) st.2 in
     let low = (p.out st.0 st.1).1 in
-    let fit = subst (λ (v : ValueView). length v.claims.list + length v.claims.held ≤ v.claims.count) (sym is) c.rewind.ensures.room in
+    let fit = subst (λ (v : ValueView). length v.claims.list + length v.claims.held ≤ v.claims.count) (sym is) c.requires.room in
     let room = has_room _ _ _ _ _ v h p o.1 fit in
     let spot : c.pass.inside.count + (c.args.m.slot - c.pass.inside.fixed) + 1 ≡ state_at v.claims.count h.slot = omega (arith, k, sl, fx) in
     let x = 2 * (c.from-generation.result + 1) in
