@@ -1,0 +1,38 @@
+-- What a caller needs of forks and joins.
+use Rattle.std.proofs.Common.{◌≡◌, ℕ, ◌≤◌, List, [], ◌∷◌, ◌++◌, map, length, Bool, true, false, refl, ap, ◌∙◌, subst, inr, arith, Result, Ok, Err}
+use Rattle.std.specs.Prelude.{filter, not, IfOk, IfErr}
+use Rattle.std.proofs.lemmas.Bool.{le-ltb}
+use Rattle.psac_slots.specs.declared.full.Full.{Full}
+use Rattle.psac_slots.specs.Branches.{stem}
+use Rattle.psac_slots.proofs.Turns.{stem_push}
+use Rattle.psac_readers.specs.declared.view.WalkView.{WalkView}
+use Rattle.psac_readers.specs.declared.view.SharedView.{SharedView}
+use Rattle.psac_readers.specs.declared.view.ReadersView.{ReadersView}
+use Rattle.psac_readers.specs.declared.readers.Link.{Link}
+use Rattle.psac_slots.specs.Handles.{Member}
+use Rattle.psac_slots.specs.Divided.{comes_back as returns}
+use Rattle.psac_readers.specs.Chained.{mods_of, ways}
+use Rattle.psac_readers.specs.Steps.{Has, left_of, right_of, joined, unknown, drew, Entered}
+use Rattle.psac_slots.proofs.Pairs.{member_right, map_member, filter_member}
+use Rattle.psac_readers.proofs.Sides.{in_told}
+
+module _ (f g : ℕ → Bool) (v : ReadersView) (m : ℕ) (mine : Member m (mods_of v.walk)) where
+  pub left_has : Has m (left_of (λ _. true) f g v)
+  left_has = inr (in_told (λ _. true) f g v m mine refl)
+
+  pub right_has : Has m (right_of (λ _. true) f g v)
+  right_has = inr (in_told (λ _. true) f g v m mine refl)
+
+-- an enter keeps what is shared, and the branch
+pub after_enter : (r : Result Link Full) (m x : ℕ) (v w : ReadersView) → IfOk r (λ l. Entered v m x l.index w) → IfErr r (λ f. (f.room ≡ length v.claims.list) × (f.room ≤ f.index) × (w ≡ drew v f.index)) → (w.shared ≡ v.shared) × (w.claims.branch ≡ v.claims.branch)
+after_enter (Ok l) m x v w h q = (ap (λ (z : ReadersView). z.shared) h.3, ap (λ (z : ReadersView). z.claims.branch) h.3)
+after_enter (Err e) m x v w h q = (ap (λ (z : ReadersView). z.shared) q.2, ap (λ (z : ReadersView). z.claims.branch) q.2)
+
+-- what is shared from the branch on comes back at the join
+pub comes_back : (v w : ReadersView) (m : ℕ) (b : List Bool) (e : SharedView) → Member e v.shared → e.of ≡ m → e.label ≡ b → v.claims.branch ≡ b ++ false ∷ [] → Member m (mods_of (joined v w).walk)
+comes_back v w m b e had is label lb =
+    let s : stem v.claims.branch ≡ b = ap stem lb ∙ stem_push b false in
+    let on : returns ways (stem v.claims.branch) e ≡ true = ap not (le-ltb (length e.label) (length (stem v.claims.branch)) (let x = ap length label in let y = ap length s in omega (arith, x, y))) in
+    subst (λ x. Member x (mods_of (joined v w).walk)) is
+    (map_member (λ (x : WalkView). x.of) (unknown e) (joined v w).walk
+    (member_right (unknown e) (v.walk ++ w.walk) (map unknown (filter (returns ways (stem v.claims.branch)) v.shared)) (map_member unknown e (filter (returns ways (stem v.claims.branch)) v.shared) (filter_member (returns ways (stem v.claims.branch)) e v.shared had on))))

@@ -1,0 +1,16 @@
+pub mod Links
+pub mod Keeps
+pub mod Rewinding
+pub mod Acts
+pub mod Taking
+pub mod Unlinking
+pub mod Freeing
+pub mod Handing
+pub mod Sweeping
+pub mod Sides
+pub mod Opens
+pub mod Entering
+pub mod Carrying
+pub mod Walking
+pub mod Callers
+pub mod Kept

@@ -1,0 +1,24 @@
+use Rattle.std.proofs.Common.{ℕ, ◌≡◌, ◌+◌, suc, sym, ap, subst, ◌∙◌, arith}
+use Rattle.psac_slots.specs.Handles.{Member}
+use Rattle.psac_readers.specs.declared.view.ReadersView.{ReadersView}
+use Rattle.psac_readers.specs.Steps.{rewound}
+use Rattle.psac_readers.specs.Swept.{AllGiven}
+use Rattle.psac_readers.proofs.Sweeping.{one_given}
+use Rattle.psac_readers.proofs.readers.Readers.give_all.Goals as goal
+
+pub take_off-requires-clause-walk : goal.take_off-requires-clause-walk
+take_off-requires-clause-walk c =
+    let g = c.loop-m.invariant.2 in
+    let t = c.loop-m-test.true in
+    let p = c.pass.invariant.1.mods_is in
+    let e = ap (λ (u : ReadersView). u.mods) (ap (λ p. p.knows) c.pass.view_is ∙ c.rewind.ensures.rewound) in
+    subst (Member c.loop-m.m) (sym g.sets) (c.requires.sets c.loop-m.m (omega (arith, t, p, e)))
+
+one_more : (n : ℕ) → suc n ≡ n + 1
+one_more n = omega arith
+
+pub loop-m-preserved : goal.loop-m-preserved
+loop-m-preserved c =
+    let i = c.loop-m.invariant in
+    let t = c.take_off.ensures in
+    (t.table ∙ i.0, t.begun, subst (λ n. AllGiven n (rewound c.args.pass.now.knows) c.take_off.new.pass.knows) (one_more c.loop-m.m) (one_given c.loop-m.m (rewound c.args.pass.now.knows) c.loop-m.pass.knows c.take_off.new.pass.knows i.2 t.taken), t.room)

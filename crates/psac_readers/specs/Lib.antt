@@ -1,0 +1,5 @@
+pub mod Chained
+pub mod Steps
+pub mod Passes
+pub mod Swept
+pub mod Promised
