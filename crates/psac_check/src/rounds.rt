@@ -1,5 +1,6 @@
 // The rounds of the check: the headers, then main, then the bodies.
 ghost use Rattle.std.specs.Prelude.{◌≡◌, ◌≤◌, [], ◌∷◌, ◌++◌, ◌||◌, map, not, Ok, Err, IfOk, IfErr, IfSome};
+ghost use Rattle.psac_grammar.specs.Language.{IsParsed};
 ghost use Rattle.psac_model.specs.Fresh.{main_of as main_func};
 ghost use Rattle.psac_model.specs.Series.{Rebound, has, unless, first_wrong, params_wrong, headers, main_meets, func_meets, bodies, meets};
 ghost use Rattle.psac_check.specs.Faults.{fault_of, told};
@@ -112,6 +113,7 @@ fn all_bodies(alloc: Global, funcs: &[Func]) -> Result<(), CheckFault>
 /// destination is written once and before it is read, and each call fits the header of its function. Else the first
 /// fault: of the headers of all functions, then of main, then of the bodies in text order, token by token.
 pub fn check(alloc: Global, program: Program) -> Result<Checked, CheckFault>
+    requires parsed { IsParsed program }
     // What is accepted meets the rule.
     ensures met { IfOk result (λ checked. meets program ≡ Ok tt) }
     ensures same { IfOk result (λ checked. checked ≡ program) }

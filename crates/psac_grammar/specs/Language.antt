@@ -25,6 +25,10 @@ pub record IsProgram (bytes : List ℕ) (p : Program) : Type 0 where
   pub limits : AllFine ms
   pub is : p ≡ program bytes funcs
 
+-- the program of some text of the grammar within the limits
+abbrev pub IsParsed : Program → Type 0
+IsParsed p = (bytes : List ℕ) × IsProgram bytes p
+
 -- A text of the grammar, limits aside, begins with these tokens.
 pub record Begins (ts : List Token) : Type 0 where
   pub ms : List Marked

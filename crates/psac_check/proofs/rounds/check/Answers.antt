@@ -17,6 +17,6 @@ returns-in_err-all_bodies-clause-fault c =
     let p = err_from_is_err_and c.from_residual-in_err-all_bodies.result c.from_residual-in_err-all_bodies.ensures.1 in
     rw (p.1, p.2) (bodies_fail c.args.program _ c.in_ok-all_headers.field-0 c.in_ok-begins.field-0 (rw c.as_slice-funcs.ensures at c.in_ok-all_headers.ensures) c.in_ok-begins.ensures (rw c.as_slice-funcs.ensures at c.in_err-all_bodies.ensures))
 
-pub of-requires : goal.of-requires
-of-requires c =
+pub of-requires-clause-met : goal.of-requires-clause-met
+of-requires-clause-met c =
     all_meet c.args.program c.in_ok-all_headers.field-0 c.in_ok-begins.field-0 c.in_ok-all_bodies.field-0 (rw c.as_slice-funcs.ensures at c.in_ok-all_headers.ensures) c.in_ok-begins.ensures (rw c.as_slice-funcs.ensures at c.in_ok-all_bodies.ensures)

@@ -2,7 +2,7 @@ use Rattle.psac_check.proofs.Whole.{met_main}
 use Rattle.psac_check.proofs.accepted.Checked.into_program.Goals as goal
 
 pub returns-clause-main : goal.returns-clause-main
-returns-clause-main c = (met_main c.self.inside.program c.self.invariant).there
+returns-clause-main c = (met_main c.self.inside.program c.self.invariant.0).there
 
 pub returns-clause-bare : goal.returns-clause-bare
-returns-clause-bare c = (met_main c.self.inside.program c.self.invariant).bare
+returns-clause-bare c = (met_main c.self.inside.program c.self.invariant.0).bare
