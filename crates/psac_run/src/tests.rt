@@ -1,7 +1,12 @@
 ghost use Rattle.std.specs.Prelude.{◌<◌};
 
+use crate::accept::accept;
 use crate::psac;
+use crate::texts::enter_texts;
 use psac_base::{MemShelf, MemSink, MemSource};
+use psac_inputs::{Interner, load_lines};
+use psac_model::{End, FaultKind, Shown, Size};
+use psac_plain::{PlainEnd, plain_run};
 use std::alloc::{AllocError, Global};
 use std::process::Abort;
 use std::thread::Threads;
@@ -119,6 +124,60 @@ fn one_run(rt: HostRuntime) {
         let run = gives(&rt, rt.alloc(), &once(program, input), 0, text);
         assert!(rt; run == Ok(true));
     }
+}
+
+// The plain run of a program over lines; nothing where one of them is refused.
+fn run_plainly(alloc: Global, program: &str, lines: &str) -> Option<PlainEnd> {
+    let Ok(checked) = accept(alloc, program.as_bytes()) else {
+        return None;
+    };
+    let program = checked.into_program();
+    let mut texts = Interner::new(alloc).ok()?;
+    let consts = enter_texts(alloc, program.texts.as_slice(), &mut texts).ok()?;
+    let grid = load_lines(alloc, lines.as_bytes(), &mut texts).ok()?;
+    plain_run(alloc, &program, &consts, &grid).ok()
+}
+
+// Whether the plain run gives this one output, with a record of this size.
+fn shows(alloc: Global, program: &str, lines: &str, output: i64, size: [u64; 5]) -> bool {
+    let [s, p, r, mods, links] = size;
+    let wanted = Size {
+        s,
+        p,
+        r,
+        mods,
+        links,
+    };
+    let Some(told) = run_plainly(alloc, program, lines) else {
+        return false;
+    };
+    told.end == End::Done
+        && told.outputs.as_slice() == [Shown::Int(output)].as_slice()
+        && told.size == wanted
+}
+
+// Whether the plain run stops so, without an output.
+fn stops(alloc: Global, program: &str, lines: &str, kind: FaultKind, line: u32) -> bool {
+    let Some(told) = run_plainly(alloc, program, lines) else {
+        return false;
+    };
+    told.end == End::Stop(kind, line) && told.outputs.is_empty()
+}
+
+// The programs of the run above.
+#[test]
+fn plain_runs(rt: HostRuntime) {
+    let alloc = rt.alloc();
+    assert!(rt; shows(alloc, DOUBLE, "21\n", 42, [1, 0, 1, 0, 1]));
+    assert!(rt; shows(alloc, SUM, "1\n2\n3\n4\n", 10, [24, 3, 7, 6, 10]));
+    assert!(rt; shows(alloc, DEEP, "", 148, [298, 0, 0, 0, 0]));
+    assert!(rt; shows(alloc, NEXT, "-1\n", 0, [1, 0, 1, 0, 1]));
+    let great = "4611686018427387904\n";
+    assert!(rt; stops(alloc, DOUBLE, great, FaultKind::Overflow, 3));
+    assert!(rt; stops(alloc, DOUBLE, "", FaultKind::Range, 2));
+    assert!(rt; stops(alloc, TWO_FAULTS, "", FaultKind::DivZero, 3));
+    assert!(rt; stops(alloc, DEEPER, "", FaultKind::TooDeep, 4));
+    assert!(rt; stops(alloc, NEXT, "9223372036854775808\n", FaultKind::Kind, 3));
 }
 
 #[test]
