@@ -47,7 +47,8 @@ prefix_whole (false ∷ a) (false ∷ b) e l = ap (λ z. false ∷ z) (prefix_wh
 prefix_whole (true ∷ a) (false ∷ b) e l = absurd (true≢false (sym e))
 prefix_whole (false ∷ a) (true ∷ b) e l = absurd (true≢false (sym e))
 
-prefix_through : (a b c : List Bool) → is_prefix a b ≡ true → is_prefix b c ≡ true → is_prefix a c ≡ true
+-- what begins a branch that begins another begins that one
+pub prefix_through : (a b c : List Bool) → is_prefix a b ≡ true → is_prefix b c ≡ true → is_prefix a c ≡ true
 prefix_through [] b c p q = refl
 prefix_through (x ∷ a) [] c p q = absurd (true≢false (sym p))
 prefix_through (x ∷ a) (y ∷ b) [] p q = absurd (true≢false (sym q))

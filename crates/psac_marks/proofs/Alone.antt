@@ -1,0 +1,86 @@
+-- What a sole pass knows of the table.
+use Rattle.std.proofs.Common.{◌≡◌, ◌≢◌, ℕ, zero, suc, ◌*◌, ◌<◌, ◌≤◌, List, [], ◌∷◌, map, length, set, drop, true, false, true≢false, refl, sym, ap, ◌∙◌, subst, inl, ⊎_elim, arith}
+use Rattle.std.proofs.lemmas.Bool.{lt-ltb, cases_eq}
+use mathlib.Core.Option.{some, some-injective}
+use lib.ListN.{get_elem?}
+use Rattle.atomic_table.proofs.Lists.{at_map}
+use Rattle.psac_ops.specs.declared.plain.Handle.{Handle}
+use Rattle.psac_slots.specs.Handles.{Member, slot_times, once_below}
+use Rattle.psac_slots.specs.declared.view.ClaimView.{ClaimView}
+use Rattle.psac_slots.specs.Claiming as claiming
+use Rattle.psac_slots.proofs.Rewinds as turns
+use Rattle.psac_slots.proofs.Sums.{bit, sum_set, sum_none, all_set}
+use Rattle.psac_slots.proofs.Removed.{found}
+use Rattle.psac_marks.specs.declared.view.OwnView.{OwnView}
+use Rattle.psac_marks.specs.declared.view.SharedView.{SharedView}
+use Rattle.psac_marks.specs.declared.view.MarksView.{MarksView}
+use Rattle.psac_marks.specs.Marked.{state_at, free_word, Place, own_place, shared_place, places, claims_of, rights_of, tree_of, held_times, Marked}
+use Rattle.psac_marks.proofs.Parts.{place_cases}
+use Rattle.psac_marks.proofs.Keeps.{at_mapped, held_is}
+
+none_in : {A : Type 0} (l : List A) → ((x : A) → Member x l → ⊥) → l ≡ []
+none_in [] f = refl
+none_in (x ∷ l) f = absurd (f x (inl refl))
+
+pub dropped_at : (l : List Handle) (c : ℕ) (x : Handle) → Member x (drop c l) → (k : ℕ) × (c ≤ k) × (get_elem? l k ≡ some x)
+dropped_at [] zero x m = absurd m
+dropped_at [] (suc c) x m = absurd m
+dropped_at (y ∷ l) zero x m = ⊎_elim (λ e. (0, omega arith, ap some e)) (λ r. let q = dropped_at l zero x r in (suc q.0, omega arith, q.2)) m
+dropped_at (y ∷ l) (suc c) x m = let q = dropped_at l c x m in let le = q.1 in (suc q.0, omega (arith, le), q.2)
+
+module _ (nodes : ℕ) (words : List ℕ) (views : List MarksView) (h : Marked nodes words views) where
+  -- a pass that isn't live has no node
+  pub idle : (j : ℕ) (u : MarksView) → get_elem? views j ≡ some u → u.claims.live ≡ false → (e : Place) → Member e (places u) → ⊥
+  idle j u d dead e m =
+      let o = h.rights.own j (rights_of u) (at_map rights_of views j u d) in ⊎_elim
+      (λ (p : (k : OwnView) × Member k u.own × (own_place u.claims.branch k ≡ e)). true≢false (sym (o.rises p.0 p.1) ∙ dead))
+      (λ (p : (k : SharedView) × Member k u.shared × (shared_place k ≡ e)). true≢false (sym (o.awake p.0 p.1) ∙ dead))
+      (place_cases u e m)
+
+  module _ (id : ℕ) (v : MarksView) (at : get_elem? views id ≡ some v) (live : v.claims.live ≡ true) (empty : v.claims.branch ≡ []) where
+    pub dead : (j : ℕ) (u : MarksView) → j ≢ id → get_elem? views j ≡ some u → u.claims.live ≡ false
+    dead j u n e = turns.alone nodes h.counter h.head h.list words (map claims_of views) h.claims id v.claims (at_map claims_of views id v at) live empty j u.claims n (at_map claims_of views j u e)
+
+    -- no other pass has a node
+    pub nobody_else : (j : ℕ) (u : MarksView) (e : Place) → j ≢ id → get_elem? views j ≡ some u → Member e (places u) → ⊥
+    nobody_else j u e n d m = idle j u d (dead j u n d) e m
+
+    none_shared : (e : SharedView) → Member e v.shared → ⊥
+    none_shared e m = let l = ((h.rights.own id (rights_of v) (at_map rights_of views id v at)).labels e m).1 in let z = ap length empty in omega (arith, l, z)
+
+    -- a sole pass shares nothing
+    pub nothing_shared : v.shared ≡ []
+    nothing_shared = none_in v.shared none_shared
+
+    -- what a sole pass holds is all that is held
+    pub all_held : (x : ℕ) → held_times x (map tree_of views) ≡ slot_times x v.claims.held
+    all_held x =
+        let f : ClaimView → ℕ = λ (u : ClaimView). slot_times x u.held in
+        let l = map claims_of views in
+        let mine = at_map claims_of views id v at in
+        let a = sum_set f l id v.claims claiming.spent mine in
+        let z = sum_none f (set l id claiming.spent) (all_set (λ _ (u : ClaimView). f u ≡ 0) l id claiming.spent refl
+        (λ j u n e. ap (slot_times x) ((h.claims.each j u e).gone (turns.alone nodes h.counter h.head h.list words l h.claims id v.claims mine live empty j u n e)).1)) in
+        let e = held_is nodes words views h x in
+        omega (arith, a, z, e)
+
+    -- a sole pass holds what it has
+    pub holds_own : (e : Place) → Member e (places v) → Member e.node v.claims.held
+    holds_own e m =
+        let o = h.tree.out id (tree_of v) e (at_map tree_of views id v at) m in
+        let u = at_mapped tree_of views o.0 o.1 o.2 in
+        let there : Member e.node u.0.claims.held = subst (λ (k : Rattle.psac_marks.specs.Marked.Grown). Member e.node k.held) (sym u.2) o.3 in ⊎_elim
+        (λ (q : o.0 ≡ id). subst (λ (k : MarksView). Member e.node k.claims.held) (some-injective u.0 v (sym u.1 ∙ (ap (get_elem? views) q ∙ at))) there)
+        (λ n. absurd (subst (Member e.node) ((h.claims.each o.0 u.0.claims (at_map claims_of views o.0 u.0 u.1)).gone (dead o.0 u.0 n u.1)).1 there))
+        (cases_eq o.0 id)
+
+    -- the state of a slot that a sole pass doesn't hold says that it is free
+    pub free_state : (x : ℕ) → x < nodes → slot_times x v.claims.held ≡ 0 → (g : ℕ) × (get_elem? words (state_at nodes x) ≡ some (2 * g))
+    free_state x low none =
+        let s = h.claims.slots x in
+        let e = held_is nodes words views h x in
+        let a = all_held x in
+        let one : once_below x nodes ≡ 1 = ap bit (lt-ltb x nodes low) in
+        let f = found x (drop h.counter h.list) (omega (arith, s, e, a, none, one)) in
+        let k = dropped_at h.list h.counter f.0 f.1 in
+        (f.0.generation, ap (λ y. get_elem? words (state_at nodes y)) (sym f.2) ∙ h.states.free k.0 f.0 k.1 k.2)

@@ -1,0 +1,138 @@
+-- What the four stores of a node's going make of a view.
+use Rattle.std.proofs.Common.{◌≡◌, ◌≢◌, ℕ, suc, ◌+◌, ◌*◌, ◌/◌, ◌%◌, ◌<◌, ◌≤◌, List, [], ◌∷◌, map, length, Bool, true, false, cond, refl, sym, ap, ◌∙◌, subst, ⊎_elim, arith, Option, Some, None, length-append}
+use Rattle.std.specs.Prelude.{filter, not, ◌==◌}
+use Rattle.std.proofs.lemmas.Bool.{eq-eqb, ne_eqb, cases_eq, cases_lt}
+use Rattle.psac_ops.specs.declared.plain.Handle.{Handle}
+use Rattle.psac_slots.specs.Handles.{Member, later, removed, slot_times}
+use Rattle.psac_slots.specs.Claiming.{times}
+use Rattle.psac_slots.proofs.Pairs.{member_map, map_member, member_filter}
+use Rattle.psac_slots.proofs.Removed.{member_times, removed_length, found}
+use Rattle.psac_marks.specs.declared.view.OwnView.{OwnView}
+use Rattle.psac_marks.specs.declared.view.SharedView.{SharedView}
+use Rattle.psac_marks.specs.declared.view.StateView.{StateView}
+use Rattle.psac_marks.specs.declared.view.MarksView.{MarksView}
+use Rattle.psac_marks.specs.Marked.{Place, own_place, shared_place, handle_of, free_word, state_at}
+use Rattle.psac_marks.specs.Steps.{other_own, other_state, hang, hung, put, stated, cleared, gave, released, Tells}
+use Rattle.psac_marks.specs.Passes.{Carries, Owns, Bare, Childless}
+use Rattle.psac_marks.proofs.Parts.{times_gone, place_own, place_shared, place_cases}
+use Rattle.psac_marks.proofs.Giving.{MayGo, filtered}
+
+-- the node isn't marked, is a root, and its state says that it is free
+abbrev pub leaving : Handle → MarksView → MarksView
+leaving g v = stated g.slot (free_word (later g)) (hung g.slot None (cleared g.slot v))
+
+none_some : (x : ℕ) → ◌≡◌ {A = Option ℕ} None (Some x) → ⊥
+none_some x e = absurd (cc)
+
+pub bare : (v : MarksView) (x : ℕ) → Childless v x → Bare v x
+bare v x f o m is kept = let a = f o m is in absurd (omega (arith, a, kept))
+
+-- the state of what is held
+pub state_of : (nodes head room words : ℕ) (v : MarksView) → Carries nodes head room words v → (g : Handle) → Member g v.claims.held → (t : StateView) × Member t v.states × (t.of ≡ g)
+state_of nodes head room words v p g m = member_map handle_of g v.states (subst (Member g) (sym p.held_is) m)
+
+pub may_go : (nodes head room words : ℕ) (v : MarksView) → Carries nodes head room words v → (g : Handle) → Member g v.claims.held → Owns v g → Childless v g.slot → MayGo (leaving g v) g
+may_go nodes head room words v p g m own free =
+    let x = g.slot in
+    let t = state_of nodes head room words v p g m in
+    let slot = ap (λ (h : Handle). h.slot) own.2 in
+    record {
+      climb = p.climb;
+      own = hang x None own.0;
+      has = map_member (hang x None) own.0 v.own own.1;
+      slot = slot;
+      root = ap (λ b. cond b None own.0.parent) (eq-eqb own.0.node.slot x slot);
+      unmarked = times_gone x v.marked;
+      idle = times_gone x v.busy;
+      childless = λ o mo is.
+          let k = member_map (hang x None) o v.own mo in
+          subst (λ (z : OwnView). 0 < times z.node.slot v.dropped) k.2 (⊎_elim
+          (λ (e : k.0.node.slot ≡ x). absurd (none_some x (sym (ap (λ b. cond b None k.0.parent) (eq-eqb k.0.node.slot x e)) ∙ (ap (λ (z : OwnView). z.parent) k.2 ∙ is))))
+          (λ (n : k.0.node.slot ≢ x). free k.0 k.1 (sym (ap (λ b. cond b None k.0.parent) (ne_eqb k.0.node.slot x n)) ∙ (ap (λ (z : OwnView). z.parent) k.2 ∙ is)))
+          (cases_eq k.0.node.slot x));
+      state = put x (free_word (later g)) t.0;
+      known = map_member (put x (free_word (later g))) t.0 v.states t.1;
+      of = t.2;
+      word = ap (λ b. cond b (free_word (later g)) t.0.word) (eq-eqb t.0.of.slot x (ap (λ (h : Handle). h.slot) t.2));
+    }
+
+hung_one : (x : ℕ) (par : Option ℕ) (o : OwnView) (ns ms : List OwnView) → ns ≡ ms → (b : Bool) → (o.node.slot == x) ≡ b → cond (not b) (hang x par o ∷ ns) ns ≡ cond (not b) (o ∷ ms) ms
+hung_one x par o ns ms e true is = e
+hung_one x par o ns ms e false is = λ i. record { node = o.node; parent = cond (is i) par o.parent } ∷ e i
+
+hung_others : (x : ℕ) (par : Option ℕ) (os : List OwnView) → filter (other_own x) (map (hang x par) os) ≡ filter (other_own x) os
+hung_others x par [] = refl
+hung_others x par (o ∷ os) = hung_one x par o (filter (other_own x) (map (hang x par) os)) (filter (other_own x) os) (hung_others x par os) (o.node.slot == x) refl
+
+put_one : (x n : ℕ) (t : StateView) (ns ms : List StateView) → ns ≡ ms → (b : Bool) → (t.of.slot == x) ≡ b → cond (not b) (put x n t ∷ ns) ns ≡ cond (not b) (t ∷ ms) ms
+put_one x n t ns ms e true is = e
+put_one x n t ns ms e false is = λ i. record { of = t.of; word = cond (is i) n t.word } ∷ e i
+
+put_others : (x n : ℕ) (ts : List StateView) → filter (other_state x) (map (put x n) ts) ≡ filter (other_state x) ts
+put_others x n [] = refl
+put_others x n (t ∷ ts) = put_one x n t (filter (other_state x) (map (put x n) ts)) (filter (other_state x) ts) (put_others x n ts) (t.of.slot == x) refl
+
+-- what was changed of the node goes with it
+pub released_is : (g : Handle) (v : MarksView) → gave g (leaving g v) ≡ released g v
+released_is g v = λ i. record (released g v) { own = hung_others g.slot None v.own i; states = put_others g.slot (free_word (later g)) v.states i }
+
+module _ (nodes head room words : ℕ) (v : MarksView) (p : Carries nodes head room words v) (g : Handle) (m : Member g v.claims.held) (fit : length v.claims.list + length v.claims.held ≤ v.claims.count) where
+  -- what is out has room in the ring
+  pub has_room : room < nodes
+  has_room = let a = member_times g v.claims.held m in let b = removed_length g.slot v.claims.held in let c = p.room_is in let d = p.nodes_is in omega (arith, a, b, c, d, fit)
+
+  pub released_room : length (released g v).claims.list + length (released g v).claims.held ≤ (released g v).claims.count
+  released_room =
+      let a = length-append v.claims.list (later g ∷ []) in
+      let b = member_times g v.claims.held m in
+      let c = removed_length g.slot v.claims.held in
+      omega (arith, a, b, c, fit)
+
+  pub carries_released : Carries nodes head (room + 1) words (released g v)
+  carries_released = record {
+    live = p.live;
+    nodes_is = p.nodes_is;
+    head_is = p.head_is;
+    room_is = (let a = length-append v.claims.list (later g ∷ []) in let b = p.room_is in omega (arith, a, b));
+    room_fits = (let a = has_room in omega (arith, a));
+    head_fits = p.head_fits;
+    words_is = p.words_is;
+    small = p.small;
+    climb = p.climb;
+    out = λ t mt. p.out t (member_filter (other_state g.slot) t v.states mt).0;
+    held_is = filtered g.slot v.states ∙ ap (removed g.slot) p.held_is;
+    low = λ e me. ⊎_elim
+        (λ (q : (o : OwnView) × Member o (released g v).own × (own_place v.claims.branch o ≡ e)). subst (λ (z : Place). z.node.slot < nodes) q.2 (p.low (own_place v.claims.branch q.0) (place_own v q.0 (member_filter (other_own g.slot) q.0 v.own q.1).0)))
+        (λ (q : (s : SharedView) × Member s v.shared × (shared_place s ≡ e)). subst (λ (z : Place). z.node.slot < nodes) q.2 (p.low (shared_place q.0) (place_shared v q.0 q.1)))
+        (place_cases (released g v) e me);
+  }
+
+-- what the state of a slot tells a sole pass
+module _ (nodes head room words : ℕ) (v : MarksView) (p : Carries nodes head room words v) (x i n : ℕ) (sole : v.claims.counter ≡ Some 0) (t : Tells v i n) (low : x < nodes) (is : i ≡ state_at nodes x) where
+  stated_out : (g : Handle) → Member g v.claims.held → g.slot ≡ x → n ≡ suc (2 * g.generation)
+  stated_out g m e =
+      let s = state_of nodes head room words v p g m in
+      let k = p.nodes_is in
+      let slot = ap (λ (h : Handle). h.slot) s.2 in
+      let made = ap (λ (h : Handle). h.generation) s.2 in
+      let w = t.state s.0 s.1 (omega (arith, is, k, slot, e)) in
+      let o = (p.out s.0 s.1).0 in
+      omega (arith, w, o, made)
+
+  pub was_free : n % 2 ≡ 0 → slot_times x v.claims.held ≡ 0
+  was_free even = ⊎_elim
+      (λ (some : 0 < slot_times x v.claims.held). let g = found x v.claims.held some in let o = stated_out g.0 g.1 g.2 in absurd (omega (arith, o, even)))
+      (λ (z : slot_times x v.claims.held ≤ 0). omega (arith, z))
+      (cases_lt 0 (slot_times x v.claims.held))
+
+  pub was_out : (n % 2 ≡ 0 → ⊥) → (let g : Handle = record { slot = x; generation = n / 2 } in Member g v.claims.held × Owns v g)
+  was_out odd = ⊎_elim
+      (λ (some : 0 < slot_times x v.claims.held).
+      let g = found x v.claims.held some in
+      let slot = g.2 in
+      let o = stated_out g.0 g.1 slot in
+      let made : g.0.generation ≡ n / 2 = omega (arith, o) in
+      let same : g.0 ≡ record { slot = x; generation = n / 2 } = λ j. record { slot = slot j; generation = made j } in
+      subst (λ (h : Handle). Member h v.claims.held × Owns v h) same (g.1, (t.holds 0 sole).owned g.0 g.1))
+      (λ (z : slot_times x v.claims.held ≤ 0). let k = p.nodes_is in let f = t.free 0 x sole (omega (arith, low, k)) (omega (arith, z)) (omega (arith, is, k)) in let e = f.1 in absurd (odd (omega (arith, e))))
+      (cases_lt 0 (slot_times x v.claims.held))

@@ -1,0 +1,126 @@
+-- The words at the start meet the rule of marks.
+use Rattle.std.proofs.Common.{◌≡◌, ◌≢◌, ℕ, zero, suc, ◌+◌, ◌*◌, ◌<◌, ◌≤◌, List, [], ◌∷◌, ◌++◌, map, length, refl, sym, ap, ◌∙◌, subst, ⊎_elim, arith, None, length-append}
+use Rattle.std.proofs.lemmas.List.{length-map}
+use Rattle.std.proofs.lemmas.Bool.{cases_lt}
+use Rattle.atomic_table.proofs.Lists.{at_longer}
+use mathlib.Core.Option.{some, some-ne-none}
+use lib.ListN.{get_elem?}
+use Rattle.psac_ops.specs.declared.plain.Handle.{Handle}
+use Rattle.psac_slots.specs.Handles.{Member, word_of, fresh}
+use Rattle.psac_slots.specs.Divided.{Own, Rights}
+use Rattle.psac_slots.proofs.Opens as slots
+use Rattle.psac_slots.proofs.Removed.{length-fresh}
+use Rattle.psac_slots.proofs.Sums.{at_new}
+use Rattle.psac_marks.specs.declared.view.OwnView.{OwnView}
+use Rattle.psac_marks.specs.declared.view.SharedView.{SharedView}
+use Rattle.psac_marks.specs.Marked.{Place, Grown, Raising, Stating, rights_of, tree_of, marks_of, states_of, ways, HasOwn, Marked}
+use Rattle.psac_marks.specs.Steps.{first_view, blank, first_words}
+use Rattle.psac_marks.specs.Passes.{Carries}
+
+pub length-blank : (n : ℕ) → length (blank n) ≡ 3 * n
+length-blank zero = refl
+length-blank (suc n) = let a = length-append (blank n) (0 ∷ 0 ∷ 2 ∷ []) in let b = length-blank n in omega (arith, a, b)
+
+at_past : {A : Type 0} (l m : List A) (k : ℕ) → get_elem? (l ++ m) (length l + k) ≡ get_elem? m k
+at_past {A} [] m k = ap (λ i. get_elem? {A = A} m i) (omega arith)
+at_past {A} (x ∷ l) m k = ap (λ i. get_elem? {A = A} (x ∷ (l ++ m)) i) (one_up (length l) k) ∙ at_past l m k
+  where
+    one_up : (n k : ℕ) → suc n + k ≡ suc (n + k)
+    one_up n k = omega arith
+
+-- the three words of a free node
+blank_at : (n x j w : ℕ) → x < n → get_elem? (0 ∷ 0 ∷ 2 ∷ []) j ≡ some w → get_elem? (blank n) (3 * x + j) ≡ some w
+blank_at zero x j w l e = absurd (omega (arith, l))
+blank_at (suc n) x j w l e = ⊎_elim
+    (λ (s : x < n). at_longer (blank n) (0 ∷ 0 ∷ 2 ∷ []) (3 * x + j) w (blank_at n x j w s e))
+    (λ (g : n ≤ x). let is : 3 * x + j ≡ length (blank n) + j = let a = length-blank n in omega (arith, a, l, g) in ap (get_elem? (blank n ++ (0 ∷ 0 ∷ 2 ∷ []))) is ∙ (at_past (blank n) (0 ∷ 0 ∷ 2 ∷ []) j ∙ e))
+    (cases_lt x n)
+
+fresh_at : (n k : ℕ) (x : Handle) → get_elem? (fresh n) k ≡ some x → (x.slot < n) × (x.generation ≡ 1)
+fresh_at zero k x e = absurd (some-ne-none x (sym e))
+fresh_at (suc n) k x e = ⊎_elim
+    (λ (p : (k < length (fresh n)) × (get_elem? (fresh n) k ≡ some x)). let q = fresh_at n k x p.1 in let l = q.0 in (omega (arith, l), q.1))
+    (λ (p : (k ≡ length (fresh n)) × (record { slot = n; generation = 1 } ≡ x)). (let s = ap (λ (h : Handle). h.slot) p.1 in omega (arith, s), sym (ap (λ (h : Handle). h.generation) p.1)))
+    (at_new (fresh n) (record { slot = n; generation = 1 }) x k e)
+
+module _ (nodes : ℕ) (fits : nodes < 4294967296) where
+  ring_length : length (map word_of (fresh nodes)) ≡ nodes
+  ring_length = let a = length-map (fresh nodes) word_of in let b = length-fresh nodes in omega (arith, a, b)
+
+  word_at : (i x j w : ℕ) → x < nodes → i ≡ nodes + (3 * x + j) → get_elem? (0 ∷ 0 ∷ 2 ∷ []) j ≡ some w → get_elem? (first_words nodes nodes) (suc i) ≡ some w
+  word_at i x j w l is e =
+      let spot : i ≡ length (map word_of (fresh nodes)) + (3 * x + j) = let a = ring_length in omega (arith, a, is) in
+      ap (get_elem? (map word_of (fresh nodes) ++ blank nodes)) spot ∙ (at_past (map word_of (fresh nodes)) (blank nodes) (3 * x + j) ∙ blank_at nodes x j w l e)
+
+  pub length_first : length (first_words nodes nodes) ≡ suc (nodes + 3 * nodes)
+  length_first =
+      let a = length-append (map word_of (fresh nodes)) (blank nodes) in
+      let b = ring_length in
+      let c = length-blank nodes in
+      omega (arith, a, b, c)
+
+  pub opens : Marked nodes (first_words nodes nodes) (first_view nodes ∷ [])
+  opens =
+      let v = first_view nodes in
+      let two : (i : ℕ) (r : Rights OwnView SharedView) → get_elem? (rights_of v ∷ []) i ≡ some r → (i ≡ 0) × (rights_of v ≡ r) = slots.only (rights_of v) in
+      let tree : (i : ℕ) (g : Grown) → get_elem? (tree_of v ∷ []) i ≡ some g → (i ≡ 0) × (tree_of v ≡ g) = slots.only (tree_of v) in
+      let mark : (i : ℕ) (r : Raising) → get_elem? (marks_of v ∷ []) i ≡ some r → (i ≡ 0) × (marks_of v ≡ r) = slots.only (marks_of v) in
+      let state : (i : ℕ) (s : Stating) → get_elem? (states_of v ∷ []) i ≡ some s → (i ≡ 0) × (states_of v ≡ s) = slots.only (states_of v) in
+      let nowhere : (i : ℕ) (g : Grown) (e : Place) → get_elem? (tree_of v ∷ []) i ≡ some g → Member e g.places → ⊥ = λ i g e d m. subst (λ (k : Grown). Member e k.places) (sym (tree i g d).1) m in
+      record {
+        counter = 0;
+        head = 0;
+        list = fresh nodes;
+        parent = λ _. None;
+        long = (let l = length_first in omega (arith, l));
+        claims = slots.opens nodes (blank nodes) fits;
+        rights = record {
+          own = λ i r e. subst (Own ways) (two i r e).1 record { labels = λ x m. absurd m; single = λ w x m. absurd m; one = λ x y m. absurd m; apart = λ w m. absurd m; awake = λ _ _. refl; rises = λ _ _. refl };
+          beside = λ i j r s e f n. absurd (n ((two i r e).0 ∙ sym (two j s f).0));
+        };
+        tree = record {
+          hung = λ x l. word_at (suc (nodes + 3 * x)) x 1 0 l (omega arith) refl;
+          free = λ x e. refl;
+          parents = λ i g e d m. absurd (nowhere i g e d m);
+          out = λ i g e d m. absurd (nowhere i g e d m);
+          had = λ x p. absurd (gone x p);
+          dropped = λ i g x d p. absurd (gone x (subst (λ (k : Grown). 0 < Rattle.psac_slots.specs.Claiming.times x k.dropped) (sym (tree i g d).1) p));
+          above = λ i g e p d m. absurd (nowhere i g e d m);
+          nested = λ i j g f e o d b m. absurd (nowhere i g e d m);
+        };
+        climbs = record {
+          stored = λ x l. word_at (nodes + 3 * x) x 0 0 l (omega arith) refl;
+          once = λ x. omega arith;
+          marked = λ i r x d p. absurd (gone x (subst (λ (k : Raising). 0 < Rattle.psac_slots.specs.Claiming.times x k.marked) (sym (mark i r d).1) p));
+          busy = λ i r x d p. absurd (gone x (subst (λ (k : Raising). 0 < Rattle.psac_slots.specs.Claiming.times x k.busy) (sym (mark i r d).1) p));
+          climb = λ i r x d p. absurd (none_some x (subst (λ (k : Raising). k.climb ≡ Rattle.std.proofs.Common.Some x) (sym (mark i r d).1) p));
+          supported = λ i r e d m. absurd (subst (λ (k : Raising). Member e k.places) (sym (mark i r d).1) m);
+        };
+        states = record {
+          known = λ i s t d m. absurd (subst (λ (k : Stating). Member t k.states) (sym (state i s d).1) m);
+          held_is = λ i s d. subst (λ (k : Stating). map Rattle.psac_marks.specs.Marked.handle_of k.states ≡ k.held) (state i s d).1 refl;
+          free = λ k x le e. let q = fresh_at nodes k x e in word_at (suc (suc (nodes + 3 * x.slot))) x.slot 2 2 q.0 (omega arith) refl ∙ ap (λ g. some (2 * g)) (sym q.1);
+        };
+      }
+    where
+      gone : (x : ℕ) → 0 < 0 → ⊥
+      gone x p = omega (arith, p)
+
+      none_some : (x : ℕ) → ◌≡◌ {A = Rattle.std.proofs.Common.Option ℕ} None (Rattle.std.proofs.Common.Some x) → ⊥
+      none_some x e = absurd (cc)
+
+  pub first_carries : (size : ℕ) → suc (nodes + 3 * nodes) ≡ size → Carries nodes 0 nodes size (first_view nodes)
+  first_carries size e = record {
+    live = refl;
+    nodes_is = refl;
+    head_is = refl;
+    room_is = length-fresh nodes;
+    room_fits = omega arith;
+    head_fits = omega arith;
+    words_is = e;
+    small = fits;
+    climb = refl;
+    out = λ t m. absurd m;
+    held_is = refl;
+    low = λ k m. absurd m;
+  }

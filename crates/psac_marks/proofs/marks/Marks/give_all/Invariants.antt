@@ -1,0 +1,10 @@
+use Rattle.std.proofs.Common.{◌≡◌, ℕ, ◌+◌, ◌≤◌, List, length}
+use Rattle.psac_marks.specs.Steps.{dropping, rewound}
+use Rattle.psac_marks.proofs.GivingAll.{gave_below, Ready}
+use Rattle.psac_marks.proofs.marks.Marks.give_all.Given as goal
+
+abbrev pub invariant-loop-slot : goal.invariant-loop-slot
+invariant-loop-slot l =
+    (l.pass.table ≡ l.fn.pass.table)
+    × ((xs : List ℕ) × Ready (dropping xs (rewound l.fn.pass.knows)) × (l.pass.knows ≡ gave_below l.slot (dropping xs (rewound l.fn.pass.knows))))
+    × (length l.pass.knows.claims.list + length l.pass.knows.claims.held ≤ l.pass.knows.claims.count)

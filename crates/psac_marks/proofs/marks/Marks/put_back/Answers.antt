@@ -1,0 +1,184 @@
+use Rattle.std.proofs.Common.{◌≡◌, ◌≤◌, ℕ, suc, ◌+◌, ◌*◌, ◌%◌, ◌<◌, length, refl, sym, ap, subst, ◌∙◌, arith, mod-lt, Option, None, Some}
+use Rattle.psac_ops.specs.declared.plain.Handle.{Handle}
+use Rattle.psac_slots.specs.Handles.{Member, word_of, later}
+use Rattle.psac_slots.specs.Claiming.{place}
+use Rattle.psac_marks.specs.declared.view.MarksView.{MarksView}
+use Rattle.psac_marks.specs.Marked.{free_word, own_place, HasOwn}
+use Rattle.psac_marks.specs.Steps.{hung, stated, gave, released}
+use Rattle.psac_marks.specs.Passes.{Carries, Owns, Childless}
+use Rattle.psac_marks.proofs.Parts.{place_own}
+use Rattle.psac_marks.proofs.Keeps.{own_alone}
+use Rattle.psac_marks.proofs.Families.{bare_below}
+use Rattle.psac_marks.proofs.Acts.{clears, hangs, states}
+use Rattle.psac_marks.proofs.Giving.{gives, MayGo}
+use Rattle.psac_marks.proofs.Going.{leaving, bare, state_of, may_go, released_is, has_room, released_room, carries_released}
+use Rattle.psac_marks.proofs.marks.Marks.put_back.Goals as goal
+
+one_more : (n : ℕ) → n + 1 ≡ suc n
+one_more n = omega arith
+
+twice : (m n : ℕ) → m ≡ n → 2 * m ≡ 2 * n
+twice m n e = ap (λ k. 2 * k) e
+
+none_some : (x : ℕ) → ◌≡◌ {A = Option ℕ} None (Some x) → ⊥
+none_some x e = absurd (cc)
+
+pub store-requires : goal.store-requires
+store-requires c =
+    let is = ap (λ p. p.knows) c.pass.view_is in
+    let p = c.pass.invariant.1 in
+    let v = c.pass.inside.seat.me.0 in
+    let x = c.args.node.slot in
+    let t = ap (λ p. p.table) c.pass.view_is ∙ (c.requires.table ∙ sym c.self.view_is) in
+    let w = ap (λ z. z.words) t in
+    let z = p.words_is in
+    let n = p.nodes_is in
+    let o = subst (λ k. Owns k c.args.node) (sym is) c.requires.own in
+    let own : HasOwn v.own x = (o.0, o.1, ap (λ (h : Handle). h.slot) o.2) in
+    let low = subst (λ k. k < c.pass.inside.nodes) own.2 (p.low (own_place v.claims.branch o.0) (place_own v o.0 o.1)) in
+    let free = subst (λ k. Childless k x) (sym is) c.requires.children in (
+      t,
+      omega (arith, w, z, low),
+      clears _ _ _ v c.pass.inside.seat.me.1 p.live x _ (omega (arith, low, n))
+          (λ s h at. (own_alone _ s.words s.views h _ v at x own, bare_below _ s.words s.views h _ v at p.live x own (bare v x free))) (omega (arith, n)),
+    )
+
+pub store-requires-2 : goal.store-requires-2
+store-requires-2 c =
+    let is = ap (λ p. p.knows) c.pass.view_is in
+    let p = c.pass.invariant.1 in
+    let v = c.pass.inside.seat.me.0 in
+    let x = c.args.node.slot in
+    let t = ap (λ p. p.table) c.pass.view_is ∙ (c.requires.table ∙ sym c.self.view_is) in
+    let w = ap (λ z. z.words) t in
+    let z = p.words_is in
+    let n = p.nodes_is in
+    let o = subst (λ k. Owns k c.args.node) (sym is) c.requires.own in
+    let own : HasOwn v.own x = (o.0, o.1, ap (λ (h : Handle). h.slot) o.2) in
+    let low = subst (λ k. k < c.pass.inside.nodes) own.2 (p.low (own_place v.claims.branch o.0) (place_own v o.0 o.1)) in
+    let s1 = c.store.ensures in
+    let v1 = ap (λ m. m.0) (s1.2 x (omega (arith, n))) in
+    let n1 = ap (λ (u : MarksView). u.claims.count) v1 in (
+      s1.0 ∙ t,
+      omega (arith, w, z, low),
+      hangs _ _ _ c.store.new.seat.me.0 c.store.new.seat.me.1 (ap (λ (u : MarksView). u.claims.live) v1 ∙ p.live) x None _ _ (subst (λ (u : MarksView). HasOwn u.own x) (sym v1) own) (λ q e. absurd (none_some q e)) (omega (arith, n, n1)) refl,
+    )
+
+pub store-requires-3 : goal.store-requires-3
+store-requires-3 c =
+    let is = ap (λ p. p.knows) c.pass.view_is in
+    let p = c.pass.invariant.1 in
+    let v = c.pass.inside.seat.me.0 in
+    let g = c.args.node in
+    let x = c.args.node.slot in
+    let t = ap (λ p. p.table) c.pass.view_is ∙ (c.requires.table ∙ sym c.self.view_is) in
+    let w = ap (λ z. z.words) t in
+    let z = p.words_is in
+    let n = p.nodes_is in
+    let has = subst (λ (u : MarksView). Member g u.claims.held) (sym is) c.requires.out in
+    let st = state_of _ _ _ _ v p g has in
+    let slot = ap (λ (h : Handle). h.slot) st.2 in
+    let low = (p.out st.0 st.1).1 in
+    let s1 = c.store.ensures in
+    let v1 = ap (λ m. m.0) (s1.2 x (omega (arith, n))) in
+    let n1 = ap (λ (u : MarksView). u.claims.count) v1 in
+    let s2 = c.store-2.ensures in
+    let v2 = ap (λ m. m.0) (s2.2 x None (omega (arith, n, n1)) refl) ∙ ap (hung x None) v1 in
+    let n2 = ap (λ (u : MarksView). u.claims.count) v2 in (
+      s2.0 ∙ (s1.0 ∙ t),
+      omega (arith, w, z, low, slot),
+      states _ _ _ c.store-2.new.seat.me.0 c.store-2.new.seat.me.1 (ap (λ (u : MarksView). u.claims.live) v2 ∙ p.live) st.0 _ _ (subst (λ (u : MarksView). Member st.0 u.states) (sym v2) st.1) (omega (arith, n, n2, slot)),
+    )
+
+pub store-requires-4 : goal.store-requires-4
+store-requires-4 c =
+    let is = ap (λ p. p.knows) c.pass.view_is in
+    let p = c.pass.invariant.1 in
+    let v = c.pass.inside.seat.me.0 in
+    let g = c.args.node in
+    let x = c.args.node.slot in
+    let t = ap (λ p. p.table) c.pass.view_is ∙ (c.requires.table ∙ sym c.self.view_is) in
+    let w = ap (λ z. z.words) t in
+    let z = p.words_is in
+    let n = p.nodes_is in
+    let has = subst (λ (u : MarksView). Member g u.claims.held) (sym is) c.requires.out in
+    let own = subst (λ k. Owns k g) (sym is) c.requires.own in
+    let free = subst (λ k. Childless k x) (sym is) c.requires.children in
+    let fit = subst (λ (u : MarksView). length u.claims.list + length u.claims.held ≤ u.claims.count) (sym is) c.requires.room in
+    let room = has_room _ _ _ _ v p g has fit in
+    let s1 = c.store.ensures in
+    let v1 = ap (λ m. m.0) (s1.2 x (omega (arith, n))) in
+    let n1 = ap (λ (u : MarksView). u.claims.count) v1 in
+    let s2 = c.store-2.ensures in
+    let v2 = ap (λ m. m.0) (s2.2 x None (omega (arith, n, n1)) refl) ∙ ap (hung x None) v1 in
+    let n2 = ap (λ (u : MarksView). u.claims.count) v2 in
+    let ga = c.from-generation.ensures in
+    let s3 = c.store-3.ensures in
+    let word : 2 * (c.from-generation.result + 1) ≡ free_word (later g) = twice _ _ (omega (arith, ga)) in
+    let v3 : c.store-3.new.seat.me.0 ≡ leaving g v = ap (λ m. m.0) (s3.2 x (omega (arith, n, n2))) ∙ (λ j. stated x (word j) (v2 j)) in
+    let go = subst (λ u. MayGo u g) (sym v3) (may_go _ _ _ _ v p g has own free) in
+    let q3 = c.from-3.ensures in
+    let q4 = c.from-4.ensures in
+    let m = mod-lt (c.from.result + c.from-2.result) {m = c.from-3.result} (omega (arith, q3, room)) in
+    let here : (c.from.result + c.from-2.result) % c.from-3.result + 1 ≡ place c.store-3.new.seat.me.0.claims.count (c.store-3.new.seat.me.0.claims.head + length c.store-3.new.seat.me.0.claims.list) =
+    one_more _ ∙ (λ j. suc (((c.from.ensures ∙ (sym p.head_is ∙ sym (ap (λ (u : MarksView). u.claims.head) v3))) j + (c.from-2.ensures ∙ (sym p.room_is ∙ sym (ap (λ (u : MarksView). length u.claims.list) v3))) j) % (c.from-3.ensures ∙ (sym p.nodes_is ∙ sym (ap (λ (u : MarksView). u.claims.count) v3))) j)) in
+    let stored : (c.from-generation.result + 1) * 4294967296 + c.from-4.result ≡ word_of (later g) = omega (arith, ga, q4) in
+    (s3.0 ∙ (s2.0 ∙ (s1.0 ∙ t)), omega (arith, w, z, m, q3), gives _ _ _ _ _ c.store-3.new.seat.me.0 c.store-3.new.seat.me.1 g (ap (λ (u : MarksView). u.claims.counter) (v3 ∙ ap (leaving g) is) ∙ c.requires.begun) (subst (λ (u : MarksView). Member g u.claims.held) (sym v3) has) c.requires.next go here stored)
+
+pub returns-clause-gave : goal.returns-clause-gave
+returns-clause-gave c =
+    let is = ap (λ p. p.knows) c.pass.view_is in
+    let p = c.pass.invariant.1 in
+    let v = c.pass.inside.seat.me.0 in
+    let g = c.args.node in
+    let x = c.args.node.slot in
+    let n = p.nodes_is in
+    let has = subst (λ (u : MarksView). Member g u.claims.held) (sym is) c.requires.out in
+    let v1 = ap (λ m. m.0) (c.store.ensures.2 x (omega (arith, n))) in
+    let n1 = ap (λ (u : MarksView). u.claims.count) v1 in
+    let v2 = ap (λ m. m.0) (c.store-2.ensures.2 x None (omega (arith, n, n1)) refl) ∙ ap (hung x None) v1 in
+    let n2 = ap (λ (u : MarksView). u.claims.count) v2 in
+    let ga = c.from-generation.ensures in
+    let q4 = c.from-4.ensures in
+    let word : 2 * (c.from-generation.result + 1) ≡ free_word (later g) = twice _ _ (omega (arith, ga)) in
+    let v3 : c.store-3.new.seat.me.0 ≡ leaving g v = ap (λ m. m.0) (c.store-3.ensures.2 x (omega (arith, n, n2))) ∙ (λ j. stated x (word j) (v2 j)) in
+    let stored : (c.from-generation.result + 1) * 4294967296 + c.from-4.result ≡ word_of (later g) = omega (arith, ga, q4) in
+    ap (λ m. m.0) (c.store-4.ensures.2 g (subst (λ (u : MarksView). Member g u.claims.held) (sym v3) has) c.requires.next stored) ∙ (ap (gave g) v3 ∙ (released_is g v ∙ ap (released g) is))
+
+pub returns-clause-room : goal.returns-clause-room
+returns-clause-room c =
+    let is = ap (λ p. p.knows) c.pass.view_is in
+    let p = c.pass.invariant.1 in
+    let v = c.pass.inside.seat.me.0 in
+    let g = c.args.node in
+    let has = subst (λ (u : MarksView). Member g u.claims.held) (sym is) c.requires.out in
+    let fit = subst (λ (u : MarksView). length u.claims.list + length u.claims.held ≤ u.claims.count) (sym is) c.requires.room in
+    subst (λ (u : MarksView). length u.claims.list + length u.claims.held ≤ u.claims.count) (ap (released g) is ∙ sym (returns-clause-gave c)) (released_room _ _ _ _ v p g has fit)
+
+pub invariant_of-pass : goal.invariant_of-pass
+invariant_of-pass c =
+    let is = ap (λ p. p.knows) c.pass.view_is in
+    let p = c.pass.invariant.1 in
+    let v = c.pass.inside.seat.me.0 in
+    let g = c.args.node in
+    let x = c.args.node.slot in
+    let n = p.nodes_is in
+    let has = subst (λ (u : MarksView). Member g u.claims.held) (sym is) c.requires.out in
+    let fit = subst (λ (u : MarksView). length u.claims.list + length u.claims.held ≤ u.claims.count) (sym is) c.requires.room in
+    let e1 = c.store.ensures.2 x (omega (arith, n)) in
+    let v1 = ap (λ m. m.0) e1 in
+    let n1 = ap (λ (u : MarksView). u.claims.count) v1 in
+    let e2 = c.store-2.ensures.2 x None (omega (arith, n, n1)) refl in
+    let v2 = ap (λ m. m.0) e2 ∙ ap (hung x None) v1 in
+    let n2 = ap (λ (u : MarksView). u.claims.count) v2 in
+    let ga = c.from-generation.ensures in
+    let q4 = c.from-4.ensures in
+    let e3 = c.store-3.ensures.2 x (omega (arith, n, n2)) in
+    let word : 2 * (c.from-generation.result + 1) ≡ free_word (later g) = twice _ _ (omega (arith, ga)) in
+    let v3 : c.store-3.new.seat.me.0 ≡ leaving g v = ap (λ m. m.0) e3 ∙ (λ j. stated x (word j) (v2 j)) in
+    let stored : (c.from-generation.result + 1) * 4294967296 + c.from-4.result ≡ word_of (later g) = omega (arith, ga, q4) in
+    let e4 = c.store-4.ensures.2 g (subst (λ (u : MarksView). Member g u.claims.held) (sym v3) has) c.requires.next stored in
+    let view = ap (λ m. m.0) e4 ∙ (ap (gave g) v3 ∙ released_is g v) in (
+      ap (λ m. m.1) e4 ∙ (ap (λ m. m.1) e3 ∙ (ap (λ m. m.1) e2 ∙ (ap (λ m. m.1) e1 ∙ c.pass.invariant.0))),
+      subst (λ (y : ℕ × MarksView). Carries c.pass.inside.nodes c.pass.inside.head (c.pass.inside.room + 1) y.0 y.1) (λ j. (ap (λ z. z.words) (sym (c.store-4.ensures.0 ∙ (c.store-3.ensures.0 ∙ (c.store-2.ensures.0 ∙ c.store.ensures.0)))) j, sym view j)) (carries_released _ _ _ _ v p g has fit),
+    )

@@ -1,0 +1,24 @@
+use Rattle.std.proofs.Common.{ℕ, sym, ap, subst, ◌∙◌, arith}
+use Rattle.psac_marks.specs.declared.view.MarksView.{MarksView}
+use Rattle.psac_marks.specs.Passes.{Carries}
+use Rattle.psac_marks.proofs.Regaining.{regains}
+use Rattle.psac_marks.proofs.Handed.{carries_regained}
+use Rattle.psac_marks.proofs.marks.Marks.regain.Goals as goal
+
+pub load-requires : goal.load-requires
+load-requires c =
+    let is = c.pass.view_is in
+    let p = c.pass.invariant.1 in
+    let t = ap (λ p. p.table) is ∙ (c.requires.table ∙ sym c.self.view_is) in
+    let w = ap (λ z. z.words) t in
+    let z = p.words_is in
+    (t, omega (arith, w, z), regains _ _ _ c.pass.inside.seat.me.0 c.pass.inside.seat.me.1 p.live (ap (λ p. p.knows.claims.branch) is ∙ c.requires.joined))
+
+pub returns-clause-alone : goal.returns-clause-alone
+returns-clause-alone c = let l = c.load.ensures.2 in ap (λ m. m.0.shared) l.0 ∙ l.1
+
+pub invariant_of-result : goal.invariant_of-result
+invariant_of-result c =
+    let s = c.load.ensures in
+    let e = s.2.0 in
+    (ap (λ m. m.1) e ∙ c.pass.invariant.0, subst (λ (x : ℕ × MarksView). Carries c.pass.inside.nodes c.pass.inside.head c.pass.inside.room x.0 x.1) (λ j. (ap (λ z. z.words) (sym s.0) j, ap (λ m. m.0) (sym e) j)) (carries_regained _ _ _ _ c.pass.inside.seat.me.0 c.pass.invariant.1 _))

@@ -1,0 +1,43 @@
+use Rattle.std.proofs.Common.{subst, ◌∙◌, refl, arith}
+use Rattle.psac_slots.specs.Handles.{Member}
+use Rattle.psac_marks.specs.declared.view.MarksView.{MarksView}
+use Rattle.psac_marks.specs.Marked.{places}
+use Rattle.psac_marks.specs.Passes.{RaisedOne}
+use Rattle.psac_marks.proofs.Climbing.{begins, stands, goes_up, ends}
+use Rattle.psac_marks.proofs.marks.climb.Goals as goal
+
+pub loop-above-init : goal.loop-above-init
+loop-above-init c = (refl, refl, begins c.args.seat.now.me.0 c.args.node c.requires.path.0 c.requires.idle c.requires.path.1)
+
+pub raise_one-requires-clause-low : goal.raise_one-requires-clause-low
+raise_one-requires-clause-low c =
+    let m = c.loop-above.invariant.2 in
+    let s = stands _ _ _ _ m in
+    let low = c.requires.low s.0 (subst (λ (u : MarksView). Member s.0 (places u)) m.view s.4) in
+    let slot = s.3 in
+    omega (arith, low, slot)
+
+pub raise_one-requires-clause-has : goal.raise_one-requires-clause-has
+raise_one-requires-clause-has c = let s = stands _ _ _ _ c.loop-above.invariant.2 in (s.0, s.4, s.3)
+
+pub raise_one-requires-clause-kept : goal.raise_one-requires-clause-kept
+raise_one-requires-clause-kept c = (stands _ _ _ _ c.loop-above.invariant.2).5
+
+pub loop-above-smaller : goal.loop-above-smaller
+loop-above-smaller c =
+    let m = c.loop-above.invariant.2 in
+    let s = stands _ _ _ _ m in
+    (goes_up _ _ _ _ m c.raise_one.new.seat.me.0 c.in-Some.above (c.in-Some.ensures.raised s.0 s.4 s.3)).1
+
+pub loop-above-preserved : goal.loop-above-preserved
+loop-above-preserved c =
+    let i = c.loop-above.invariant in
+    let s = stands _ _ _ _ i.2 in
+    let r = goes_up _ _ _ _ i.2 c.raise_one.new.seat.me.0 c.in-Some.above (c.in-Some.ensures.raised s.0 s.4 s.3) in
+    (c.in-Some.ensures.seat.0 ∙ i.0, c.in-Some.ensures.seat.1 ∙ i.1, r.0)
+
+pub returns-clause-raised : goal.returns-clause-raised
+returns-clause-raised c =
+    let m = c.loop-above.invariant.2 in
+    let s = stands _ _ _ _ m in
+    ends _ _ _ _ m c.raise_one.new.seat.me.0 c.requires.idle (subst (λ o. RaisedOne c.loop-above.seat.me.0 s.0 o c.raise_one.new.seat.me.0) c.in_default.is (c.raise_one.ensures.raised s.0 s.4 s.3))

@@ -1,0 +1,4 @@
+pub mod Marked
+pub mod Steps
+pub mod Passes
+pub mod Promised
