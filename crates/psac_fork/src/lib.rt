@@ -3,9 +3,10 @@
 
 pub mod crew;
 pub mod pass;
+pub mod tables;
 
 pub use crew::{Crew, Gate, NoGate, Side, both};
-pub use pass::{Pass, PassSplit, Tables};
+pub use tables::{Pass, PassSplit, Tables};
 
 #[cfg(test)]
 mod tests;

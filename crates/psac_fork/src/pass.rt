@@ -1,44 +1,44 @@
-//! The shared tables, and a pass of all of them.
+//! What a pass of all tables does.
 ghost use Rattle.std.specs.Prelude.{◌≡◌, ℕ, ◌+◌, ◌<◌, List, [], ◌∷◌, ◌++◌, length, true, false, Bool, IfOk};
-ghost use Rattle.psac_values.specs.Steps.{first_view, left_of, right_of, joined, learned};
+ghost use Rattle.psac_values.specs.Steps as values;
 ghost use Rattle.psac_values.specs.Knowing.{United};
+ghost use Rattle.psac_readers.specs.Steps as readers;
+ghost use Rattle.psac_marks.specs.Steps as marks;
+ghost use Rattle.psac_marks.specs.Passes.{Parted};
+ghost use Rattle.psac_fork.specs.Whole.{IsOf, HasRoom, AreSides};
 
+use crate::tables::{Pass, PassSplit, Tables};
 use psac_base::NoMemory;
+use psac_marks::Marks;
 use psac_model::Caps;
-use psac_values::{ValuePass, Values, ValuesSplit};
+use psac_readers::Readers;
+use psac_values::Values;
 use std::alloc::Global;
-use std::marker::Brand;
-
-/// How a fork divides a pass of all tables. It has no functions.
-pub trait PassSplit: ValuesSplit {}
-
-impl PassSplit for Brand {}
-
-/// The shared tables.
-#[derive(Drop)]
-pub struct Tables {
-    pub values: Values,
-}
-
-/// A pass of each table. All have one branch, and `depth` is its length.
-#[derive(Drop)]
-pub struct Pass {
-    pub values: ValuePass,
-    pub depth: u32,
-    ghost deep: { depth ≡ length values.knows.claims.branch },
-}
 
 impl Tables {
-    /// Slots below `fixed` are inputs and outputs, and as many can be made as the cap of mods says. The pass is sole.
+    /// Slots below `fixed` are inputs and outputs, and as many can be made as the cap of mods says. There is a set of
+    /// readers for each of both, room for as many reads as the cap of links says, and for as many nodes as that of nodes.
+    /// The pass is sole.
     pub fn new(alloc: Global, fixed: u32, caps: Caps) -> Result<(Tables, Pass), NoMemory>
         requires { fixed + caps.mods < 4294967296 }
-        ensures values { IfOk result (λ r. (r.1.values.table ≡ r.0.values) × (r.1.values.knows ≡ first_view fixed caps.mods)) }
+        ensures of { IfOk result (λ r. IsOf r.1 r.0) }
+        ensures values { IfOk result (λ r. r.1.values.knows ≡ values.first_view fixed caps.mods) }
+        ensures readers { IfOk result (λ r. r.1.readers.knows ≡ readers.first_view caps.links (fixed + caps.mods)) }
+        ensures marks { IfOk result (λ r. r.1.marks.knows ≡ marks.first_view caps.nodes) }
     {
-        let (values, pass) = Values::new(alloc, fixed, caps.mods)?;
+        let (values, value_pass) = Values::new(alloc, fixed, caps.mods)?;
+        let (readers, readers_pass) = Readers::new(alloc, fixed + caps.mods, caps.links)?;
+        let (marks, marks_pass) = Marks::new(alloc, caps.nodes)?;
         Ok((
-            Tables { values },
+            Tables {
+                values,
+                readers,
+                marks,
+            },
             Pass {
-                values: pass,
+                values: value_pass,
+                readers: readers_pass,
+                marks: marks_pass,
                 depth: 0,
             },
         ))
@@ -48,22 +48,38 @@ impl Tables {
 impl Pass {
     /// The pass's rights in each table are divided as D says.
     pub fn fork<D: PassSplit>(self, tables: &Tables) -> (Pass, Pass)
-        requires table { self.values.table ≡ tables.now.values }
+        requires of { IsOf self tables.now }
         requires short { self.depth < 62 }
-        requires room { self.values.knows.claims.over ≡ 0 }
-        ensures table { (result.0.values.table ≡ self.values.table) × (result.1.values.table ≡ self.values.table) }
-        ensures left { result.0.values.knows ≡ left_of D.shared D.to_right self.values.knows }
-        ensures right { result.1.values.knows ≡ right_of D.shared D.to_right self.values.knows }
+        requires room { HasRoom self }
+        requires parted { Parted D.node_shared D.node_right self.marks.knows }
+        ensures of { IsOf result.0 tables.now × IsOf result.1 tables.now }
+        ensures left_values { result.0.values.knows ≡ values.left_of D.shared D.to_right self.values.knows }
+        ensures right_values { result.1.values.knows ≡ values.right_of D.shared D.to_right self.values.knows }
+        ensures left_readers { result.0.readers.knows ≡ readers.left_of D.set_shared D.set_right D.link_right self.readers.knows }
+        ensures right_readers { result.1.readers.knows ≡ readers.right_of D.set_shared D.set_right D.link_right self.readers.knows }
+        ensures left_marks { result.0.marks.knows ≡ marks.left_of D.node_shared D.node_right self.marks.knows }
+        ensures right_marks { result.1.marks.knows ≡ marks.right_of D.node_shared D.node_right self.marks.knows }
     {
-        let Pass { values, depth } = self;
-        let (left, right) = tables.values.fork::<D>(values);
+        let Pass {
+            values,
+            readers,
+            marks,
+            depth,
+        } = self;
+        let (left_values, right_values) = tables.values.fork::<D>(values);
+        let (left_readers, right_readers) = tables.readers.fork::<D>(readers);
+        let (left_marks, right_marks) = tables.marks.fork::<D>(marks);
         (
             Pass {
-                values: left,
+                values: left_values,
+                readers: left_readers,
+                marks: left_marks,
                 depth: depth + 1,
             },
             Pass {
-                values: right,
+                values: right_values,
+                readers: right_readers,
+                marks: right_marks,
                 depth: depth + 1,
             },
         )
@@ -71,31 +87,54 @@ impl Pass {
 
     /// What both sides had. What they shared from their branch on is the pass's alone again.
     pub fn join(left: Pass, right: Pass, tables: &Tables) -> Pass
-        requires table { (left.values.table ≡ tables.now.values) × (right.values.table ≡ tables.now.values) }
-        requires sides { (b : List Bool) × (left.values.knows.claims.branch ≡ b ++ false ∷ []) × (right.values.knows.claims.branch ≡ b ++ true ∷ []) }
-        ensures table { result.values.table ≡ left.values.table }
-        ensures joined { result.values.knows ≡ joined left.values.knows right.values.knows }
+        requires of { IsOf left tables.now × IsOf right tables.now }
+        requires sides { (b : List Bool) × AreSides b left right }
+        ensures of { IsOf result tables.now }
+        ensures values { result.values.knows ≡ values.joined left.values.knows right.values.knows }
         ensures united { United left.values.knows right.values.knows result.values.knows }
+        ensures readers { result.readers.knows ≡ readers.joined left.readers.knows right.readers.knows }
+        ensures marks { result.marks.knows ≡ marks.joined left.marks.knows right.marks.knows }
     {
-        let Pass { values, depth } = left;
-        let Pass { values: other, .. } = right;
+        let Pass {
+            values,
+            readers,
+            marks,
+            depth,
+        } = left;
+        let Pass {
+            values: right_values,
+            readers: right_readers,
+            marks: right_marks,
+            ..
+        } = right;
         Pass {
-            values: tables.values.join(values, other),
+            values: tables.values.join(values, right_values),
+            readers: tables.readers.join(readers, right_readers),
+            marks: tables.marks.join(marks, right_marks),
             depth: depth - 1,
         }
     }
 
     /// The pass, whose forks were all joined again, is sole: it knows the counters, and shares nothing.
     pub fn regain(self, tables: &Tables) -> Pass
-        requires table { self.values.table ≡ tables.now.values }
+        requires of { IsOf self tables.now }
         requires joined { self.depth ≡ 0 }
-        ensures table { result.values.table ≡ self.values.table }
-        ensures counter { (n : ℕ) × (result.values.knows ≡ learned n self.values.knows) }
-        ensures alone { result.values.knows.known ≡ [] }
+        ensures of { IsOf result tables.now }
+        ensures values { (n : ℕ) × (result.values.knows ≡ values.learned n self.values.knows) }
+        ensures readers { (n : ℕ) × (result.readers.knows ≡ readers.regained n self.readers.knows) }
+        ensures marks { (n : ℕ) × (result.marks.knows ≡ marks.regained n self.marks.knows) }
+        ensures alone { (result.values.knows.known ≡ []) × (result.readers.knows.shared ≡ []) × (result.marks.knows.shared ≡ []) }
     {
-        let Pass { values, depth } = self;
+        let Pass {
+            values,
+            readers,
+            marks,
+            depth,
+        } = self;
         Pass {
             values: tables.values.regain(values),
+            readers: tables.readers.regain(readers),
+            marks: tables.marks.regain(marks),
             depth,
         }
     }
