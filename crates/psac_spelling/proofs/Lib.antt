@@ -2,7 +2,10 @@ pub mod Found
 pub mod Layers
 pub mod Lexing
 pub mod Numbers
+pub mod Operators
 pub mod Pieces
+pub mod Prints
 pub mod Quotes
 pub mod Replays
+pub mod Tokens
 pub mod Words
