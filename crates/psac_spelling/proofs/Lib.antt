@@ -1,6 +1,7 @@
 pub mod Found
 pub mod Layers
 pub mod Lexing
+pub mod Lists
 pub mod Numbers
 pub mod Operators
 pub mod Pieces

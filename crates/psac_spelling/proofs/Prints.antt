@@ -278,7 +278,7 @@ expr_some _ _ _ _ _ (alone n p d ms e x) = expr_some n p d ms e x
 expr_some _ _ _ _ _ (chain n p d g t o ms ns a b h x i y) = some_append ms _ (expr_some (suc n) p d ms a x)
 expr_some _ _ _ _ _ (compare n p d g t o ms ns a b h x i y) = some_append ms _ (expr_some n p d ms a x)
 
-carries_none : (t : Token) (kind : Kind) → t.kind ≡ kind → Bare kind → carried t ≡ []
+pub carries_none : (t : Token) (kind : Kind) → t.kind ≡ kind → Bare kind → carried t ≡ []
 carries_none t k.Int is bare = absurd bare
 carries_none t k.Name is bare = absurd bare
 carries_none t k.Text is bare = absurd bare
@@ -311,10 +311,10 @@ inner_kind k.LeftParen t h = tt
 inner_kind _ t h = absurd cc
 
 -- tokens that carry nothing, before a list
-none_before : (t : Token) (m : Mark) (ms : List Marked) → carried t ≡ [] → cargo ((t, m) ∷ ms) ≡ cargo ms
+pub none_before : (t : Token) (m : Mark) (ms : List Marked) → carried t ≡ [] → cargo ((t, m) ∷ ms) ≡ cargo ms
 none_before t m ms none = ap (λ z. z ++ cargo ms) none
 
-none_behind : (t : Token) (m : Mark) (ms : List Marked) → carried t ≡ [] → cargo (ms ++ (t, m) ∷ []) ≡ cargo ms
+pub none_behind : (t : Token) (m : Mark) (ms : List Marked) → carried t ≡ [] → cargo (ms ++ (t, m) ∷ []) ≡ cargo ms
 none_behind t m ms none = cargo-append ms ((t, m) ∷ []) ∙ ap (λ z. cargo ms ++ z) (none_before t m [] none) ∙ append-nil (cargo ms)
 
 one_deep : (too : Bool) (t : Token) → AllFine (ends_deep too (token t ∷ [])) → too ≡ false
