@@ -8,5 +8,7 @@ pub mod Pieces
 pub mod Prints
 pub mod Quotes
 pub mod Replays
+pub mod Statements
 pub mod Tokens
+pub mod Unlined
 pub mod Words
