@@ -44,9 +44,18 @@ carried_by _ t = []
 abbrev pub carried : Token → List Piece
 carried t = carried_by t.kind t
 
+-- a name or a number within its limit
+abbrev pub FitsAs : Kind → Token → Type 0
+FitsAs k.Int t = t.over ≡ false
+FitsAs k.Name t = t.over ≡ false
+FitsAs _ t = Unit {0}
+
+abbrev pub Fits : Token → Type 0
+Fits t = FitsAs t.kind t
+
 abbrev pub NoneOver : List Token → Type 0
 NoneOver [] = Unit {0}
-NoneOver (t ∷ ts) = (t.over ≡ false) × NoneOver ts
+NoneOver (t ∷ ts) = Fits t × NoneOver ts
 
 -- ---- words keep their places
 
@@ -136,7 +145,7 @@ kept p ns ts k.Name w xs n t = at_place p.names (place_of w ns) w (subst (λ all
 kept p ns ts k.Text w xs n t = at_place p.texts (place_of (text_of w) ts) (text_of w) (subst (λ all. slice_get all (place_of (text_of w) ts) ≡ Some (text_of w)) t (kept_texts xs (with_word ts (text_of w)) (place_of (text_of w) ts) (text_of w) (got_word (text_of w) ts)))
 kept p ns ts _ w xs n t = tt
 
-one_replays : (p : Program) (ns ts : List (List ℕ)) (r : ℕ) (kind : Kind) (w : List ℕ) (line column : ℕ) (qs : List Piece) → Sound kind w → (token_of ns ts r kind w line column).over ≡ false → Kept p ns ts kind w
+one_replays : (p : Program) (ns ts : List (List ℕ)) (r : ℕ) (kind : Kind) (w : List ℕ) (line column : ℕ) (qs : List Piece) → Sound kind w → Fits (token_of ns ts r kind w line column) → Kept p ns ts kind w
     → Replays p (names_with ns kind w) (texts_with ts kind w) (reads_with r kind) qs → Replays p ns ts r (carried (token_of ns ts r kind w line column) ++ qs)
 one_replays p ns ts r k.Int w line column qs sound over kept rest = (int_in w (int_of w) refl over, rest)
 one_replays p ns ts r k.Name w line column qs sound over kept rest = rw kept (sound, over, refl, rest)

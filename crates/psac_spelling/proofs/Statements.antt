@@ -84,7 +84,7 @@ pub record One (p : Program) (b n m c : ℕ) (s : Stmt) (cs : List Piece) : Type
   pub spelled : (margin z : List ℕ) (rest : List Piece) → Spaces margin → Spelled p z rest → Spelled p (content_text p s margin ++ 10 ∷ z) (qs ++ rest)
   pub adds : (ts : List Token) → AreTokens qs ts → Adds b n m c ts s
 
-no_stmts : (p : Program) (b n c : ℕ) → Stmts p b n c [] []
+pub no_stmts : (p : Program) (b n c : ℕ) → Stmts p b n c [] []
 no_stmts p b n c = record {
   qs = [];
   carries = refl;
@@ -95,7 +95,7 @@ no_stmts p b n c = record {
 lines_join : (m t y z : List ℕ) → ((m ++ t ++ codes "\n") ++ y) ++ z ≡ m ++ (t ++ 10 ∷ (y ++ z))
 lines_join m t y z = simp append_assoc
 
-one_more : (p : Program) (b n m c : ℕ) (s : Stmt) (ss : List Stmt) (cs es : List Piece) → One p b n m c s cs → Stmts p b m (c + 1) ss es → Stmts p b n c (s ∷ ss) (cs ++ es)
+pub one_more : (p : Program) (b n m c : ℕ) (s : Stmt) (ss : List Stmt) (cs es : List Piece) → One p b n m c s cs → Stmts p b m (c + 1) ss es → Stmts p b n c (s ∷ ss) (cs ++ es)
 one_more p b n m c s ss cs es x y = record {
   qs = x.qs ++ y.qs;
   carries = loads-append x.qs y.qs ∙ ap (λ z. z ++ loads y.qs) x.carries ∙ ap (λ z. cs ++ z) y.carries;
@@ -157,7 +157,7 @@ body_of p b n ss cs x = record {
 
 -- ---- one statement
 
-moved : {b n c : ℕ} {xs ys : List Marked} {ss : List Stmt} → xs ≡ ys → IsStmts b n c ys ss → IsStmts b n c xs ss
+pub moved : {b n c : ℕ} {xs ys : List Marked} {ss : List Stmt} → xs ≡ ys → IsStmts b n c ys ss → IsStmts b n c xs ss
 moved {b} {n} {c} {xs} {ys} {ss} e h = subst (λ r. IsStmts b n c r ss) (sym e) h
 
 assigned_join : (w x e z : List ℕ) → (w ++ (x ++ codes " = " ++ e ++ codes ";")) ++ 10 ∷ z ≡ w ++ (x ++ (32 ∷ 61 ∷ 32 ∷ (e ++ (59 ∷ 10 ∷ z))))
@@ -201,7 +201,7 @@ assigned_fines w t a s xs back =
     ap (λ (z : List Marked). token w ∷ token t ∷ token a ∷ z) (ap (λ (z : List Marked). z ++ back) (fines-append xs (s ∷ [])) ∙ append_assoc (fines xs) (token s ∷ []) back)
 
 module _ (p : Program) (b n c : ℕ) (low : by_statements c ≡ fine) where
-  let_one : (d line x : ℕ) (e : Expr) (cs : List Piece) → below n max_names 8 ≡ fine → IsName (name_text p x) → Part p (expr_text p e) cs (λ ts. IsExpr top 0 d (fines ts) e) → One p b n (n + 1) c (stmt.Let line x e) (name x ∷ cs)
+  pub let_one : (d line x : ℕ) (e : Expr) (cs : List Piece) → below n max_names 8 ≡ fine → IsName (name_text p x) → Part p (expr_text p e) cs (λ ts. IsExpr top 0 d (fines ts) e) → One p b n (n + 1) c (stmt.Let line x e) (name x ∷ cs)
   unfolding reserved
   let_one d line x e cs few good y = record {
     qs = pieces.plain k.Let tt ∷ name x ∷ pieces.plain k.Assign tt ∷ (y.qs ++ (pieces.plain k.Semicolon tt ∷ []));
@@ -221,7 +221,7 @@ module _ (p : Program) (b n c : ℕ) (low : by_statements c ≡ fine) where
                 (rw (length_is (below n max_names 8) g.t g.over few) at (rw low at (IsStmts.bind b n c d g.w g.t g.a g.s (fines g.front) back e ss g.w_is g.t_is g.a_is g.expr g.s_is more)));
           }
 
-  write_one : (d line x : ℕ) (e : Expr) (cs : List Piece) → IsName (name_text p x) → Part p (expr_text p e) cs (λ ts. IsExpr top 0 d (fines ts) e) → One p b n n c (stmt.Write line x e) (name x ∷ cs)
+  pub write_one : (d line x : ℕ) (e : Expr) (cs : List Piece) → IsName (name_text p x) → Part p (expr_text p e) cs (λ ts. IsExpr top 0 d (fines ts) e) → One p b n n c (stmt.Write line x e) (name x ∷ cs)
   unfolding reserved
   write_one d line x e cs good y = record {
     qs = pieces.plain k.Write tt ∷ name x ∷ pieces.plain k.Assign tt ∷ (y.qs ++ (pieces.plain k.Semicolon tt ∷ []));
@@ -244,7 +244,7 @@ module _ (p : Program) (b n c : ℕ) (low : by_statements c ≡ fine) where
   new_join : (x z : List ℕ) → (codes "new " ++ x ++ codes ";") ++ 10 ∷ z ≡ codes "new " ++ (x ++ (59 ∷ 10 ∷ z))
   new_join x z = simp append_assoc
 
-  new_one : (line x : ℕ) → below n max_names 8 ≡ fine → IsName (name_text p x) → One p b n (n + 1) c (stmt.New line x) (name x ∷ [])
+  pub new_one : (line x : ℕ) → below n max_names 8 ≡ fine → IsName (name_text p x) → One p b n (n + 1) c (stmt.New line x) (name x ∷ [])
   unfolding reserved
   new_one line x few good = record {
     qs = pieces.plain k.New tt ∷ name x ∷ pieces.plain k.Semicolon tt ∷ [];
@@ -284,7 +284,7 @@ two_lists a xs ys rest = simp append_assoc
 if_pieces : (a b : Piece) (xs ys zs rest : List Piece) → (a ∷ (xs ++ (ys ++ (b ∷ zs)))) ++ rest ≡ a ∷ (xs ++ (ys ++ (b ∷ (zs ++ rest))))
 if_pieces a b xs ys zs rest = simp append_assoc
 
-body_fines : (l r : Token) (xs : List Token) (back : List Marked) → fines (l ∷ (xs ++ (r ∷ []))) ++ back ≡ token l ∷ (fines xs ++ (token r ∷ back))
+pub body_fines : (l r : Token) (xs : List Token) (back : List Marked) → fines (l ∷ (xs ++ (r ∷ []))) ++ back ≡ token l ∷ (fines xs ++ (token r ∷ back))
 body_fines l r xs back = ap (λ (z : List Marked). token l ∷ z) (ap (λ (z : List Marked). z ++ back) (fines-append xs (r ∷ [])) ∙ append_assoc (fines xs) (token r ∷ []) back)
 
 -- a list, and a body behind it
@@ -292,7 +292,7 @@ front_fines : (xs ys : List Token) (back : List Marked) → fines (xs ++ ys) ++ 
 front_fines xs ys back = ap (λ (z : List Marked). z ++ back) (fines-append xs ys) ∙ append_assoc (fines xs) (fines ys) back
 
 module _ (p : Program) (b n c : ℕ) (low : by_statements c ≡ fine) (deep : by_bodies b ≡ fine) where
-  read_one : (line count : ℕ) (items : List ReadItem) (inside : List Stmt) (cs es : List Piece) → Part p (joined (map (item_text p) items)) cs (λ ts. IsItems n (fines ts) items) → Body p (b + 1) (n + length items) inside es
+  pub read_one : (line count : ℕ) (items : List ReadItem) (inside : List Stmt) (cs es : List Piece) → Part p (joined (map (item_text p) items)) cs (λ ts. IsItems n (fines ts) items) → Body p (b + 1) (n + length items) inside es
       → One p b n n c (stmt.Read line count items inside) (block count ∷ (cs ++ es))
   unfolding reserved
   read_one line count items inside cs es y x = record {
@@ -316,7 +316,7 @@ module _ (p : Program) (b n c : ℕ) (low : by_statements c ≡ fine) (deep : by
                 (rw deep at (rw low at (IsStmts.read b n c w.one g.l g.r (fines f.front) (fines g.inside) back items g.again.new ss w.is.kind (y.derives f.front f.first) g.l_is g.again.good g.r_is more)));
           }
 
-  par_one : (line : ℕ) (left right : List Stmt) (cs es : List Piece) → Body p (b + 1) n left cs → Body p (b + 1) n right es → One p b n n c (stmt.Par line left right) (cs ++ es)
+  pub par_one : (line : ℕ) (left right : List Stmt) (cs es : List Piece) → Body p (b + 1) n left cs → Body p (b + 1) n right es → One p b n n c (stmt.Par line left right) (cs ++ es)
   unfolding reserved
   par_one line left right cs es x y = record {
     qs = pieces.plain k.Par tt ∷ (x.qs ++ y.qs);
@@ -341,7 +341,7 @@ module _ (p : Program) (b n c : ℕ) (low : by_statements c ≡ fine) (deep : by
                 (rw deep at (rw low at (IsStmts.both b n c w.one u.l u.r v.l v.r (fines u.inside) (fines v.inside) back u.again.new v.again.new ss w.is.kind u.l_is u.again.good u.r_is v.l_is v.again.good v.r_is more)));
           }
 
-  if_one : (d line : ℕ) (e : Expr) (first second : List Stmt) (ds cs es : List Piece) → Part p (expr_text p e) ds (λ ts. IsExpr top 0 d (fines ts) e) → Body p (b + 1) n first cs → Body p (b + 1) n second es
+  pub if_one : (d line : ℕ) (e : Expr) (first second : List Stmt) (ds cs es : List Piece) → Part p (expr_text p e) ds (λ ts. IsExpr top 0 d (fines ts) e) → Body p (b + 1) n first cs → Body p (b + 1) n second es
       → One p b n n c (stmt.If line e first second) (ds ++ (cs ++ es))
   unfolding reserved
   if_one d line e first second ds cs es q x y = record {
