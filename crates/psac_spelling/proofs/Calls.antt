@@ -96,7 +96,7 @@ call_pieces : (a b : Piece) (xs rest : List Piece) → (a ∷ (xs ++ (b ∷ []))
 call_pieces a b xs rest = simp append_assoc
 
 module _ (p : Program) (b n c : ℕ) (low : by_statements c ≡ fine) where
-  call_one : (line x : ℕ) (values : List Expr) (dests : List ℕ) (cs es : List Piece) → IsName (name_text p x) → Part p (joined (map (expr_text p) values)) cs (λ ts. IsValues (fines ts) values)
+  pub call_one : (line x : ℕ) (values : List Expr) (dests : List ℕ) (cs es : List Piece) → IsName (name_text p x) → Part p (joined (map (expr_text p) values)) cs (λ ts. IsValues (fines ts) values)
       → Part p (joined (map (name_text p) dests)) es (λ ts. IsNames call_dests 0 (fines ts) dests) → One p b n n c (stmt.Call line x values dests) (name x ∷ (cs ++ es))
   unfolding reserved
   call_one line x values dests cs es good y u = by (header_part p x (map (expr_text p) values) dests cs es (λ ts. IsValues (fines ts) values) (λ ts. IsNames call_dests 0 (fines ts) dests) good y (dests_part p dests es (λ ts. IsNames call_dests 0 (fines ts) dests) u))
