@@ -17,10 +17,10 @@ use Rattle.psac_spelling.proofs.Statements.{Stmts, no_stmts, one_more, body_of, 
 use Rattle.psac_spelling.proofs.Calls.{call_one}
 
 -- a list, and a token that carries nothing behind it
-then_none : (ms : List Marked) (t : Token) (m : Mark) (ns : List Marked) → carried t ≡ [] → cargo (ms ++ ((t, m) ∷ ns)) ≡ cargo ms ++ cargo ns
+pub then_none : (ms : List Marked) (t : Token) (m : Mark) (ns : List Marked) → carried t ≡ [] → cargo (ms ++ ((t, m) ∷ ns)) ≡ cargo ms ++ cargo ns
 then_none ms t m ns none = cargo-append ms ((t, m) ∷ ns) ∙ ap (λ z. cargo ms ++ z) (none_before t m ns none)
 
-name_before : (t : Token) (m : Mark) (ms : List Marked) → t.kind ≡ k.Name → cargo ((t, m) ∷ ms) ≡ name t.index ∷ cargo ms
+pub name_before : (t : Token) (m : Mark) (ms : List Marked) → t.kind ≡ k.Name → cargo ((t, m) ∷ ms) ≡ name t.index ∷ cargo ms
 name_before t m ms is = ap (λ z. z ++ cargo ms) (carries_name t is)
 
 block_before : (t : Token) (m : Mark) (ms : List Marked) → t.kind ≡ k.Read → cargo ((t, m) ∷ ms) ≡ block t.index ∷ cargo ms

@@ -1,6 +1,7 @@
 pub mod Bodies
 pub mod Calls
 pub mod Found
+pub mod Functions
 pub mod Layers
 pub mod Lexing
 pub mod Lists
