@@ -15,3 +15,5 @@ pub mod Statements
 pub mod Tokens
 pub mod Unlined
 pub mod Words
+pub mod Law
+pub mod Within

@@ -302,11 +302,11 @@ module _ (p : Program) (d g : ℕ) (n : ℕ) (t : Token) (o : Op) (ms ns : List 
       subst (Prints p (max d g + 1) (apply_two o a b)) (sym cs)
       (between_prints p d g a b (cargo ms) (cargo ns) (left parts.0 goods.0) (right deep.1 goods.1) (shallow (max d g + 1) deep.0) n t.kind o is i)
 
-rows_kind : (kind : Kind) (t : Token) → start_of kind t ≡ row_word → Bare kind
+pub rows_kind : (kind : Kind) (t : Token) → start_of kind t ≡ row_word → Bare kind
 rows_kind k.Rows t h = tt
 rows_kind _ t h = absurd cc
 
-inner_kind : (kind : Kind) (t : Token) → start_of kind t ≡ inner → Bare kind
+pub inner_kind : (kind : Kind) (t : Token) → start_of kind t ≡ inner → Bare kind
 inner_kind k.LeftParen t h = tt
 inner_kind _ t h = absurd cc
 
