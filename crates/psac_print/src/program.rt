@@ -1,6 +1,8 @@
 // From a program to its canonical text.
-ghost use Rattle.std.specs.Prelude.{◌≡◌, ◌++◌, OnOk, IfOk, map, flat_map, codes};
+ghost use Rattle.std.specs.Prelude.{◌≡◌, ◌≤◌, ◌++◌, ℕ, List, length, OnOk, IfOk, map};
+ghost use Rattle.psac_grammar.specs.Language.{IsProgram};
 ghost use Rattle.psac_spelling.specs.Canonical.{canonical, func_text, name_text, header_text};
+ghost use Rattle.psac_spelling.specs.Unlined.{ReadsBack};
 
 use crate::statement::{push_body, push_end};
 use crate::words::{push_name, push_names};
@@ -31,6 +33,8 @@ fn push_func(text: &mut Vec<u8>, program: &Program, func: &Func) -> Result<(), N
 /// The canonical text of a program.
 pub fn print(alloc: Global, program: &Program) -> Result<Vec<u8>, NoMemory>
     ensures text { IfOk result (λ text. text.items ≡ canonical program.now) }
+    // What is printed of a program that is parsed is the same program but for its lines, unless it is too long a text.
+    ensures again { IfOk result (λ text. (bytes : List ℕ) → IsProgram bytes program.now → length text.items ≤ 65536 → ReadsBack program.now text.items) }
 {
     let mut text = Vec::new(alloc);
     for func in program.funcs.as_slice() {

@@ -1,30 +1,26 @@
 -- Headers and calls are spelled and read back as themselves, and so are all statements.
-use Rattle.std.proofs.Common.{◌≡◌, ℕ, suc, zero, ◌+◌, ◌<◌, ◌≤◌, true, false, List, [], ◌∷◌, ◌++◌, append-nil, append_assoc, length, map, refl, sym, ap, subst, ◌∙◌, arith}
+use Rattle.std.proofs.Common.{◌≡◌, ℕ, false, List, [], ◌∷◌, ◌++◌, append-nil, append_assoc, map, refl, sym, ap, ◌∙◌}
 use Rattle.std.specs.Prelude.{codes}
 use Rattle.psac_syntax.specs.declared.program.Expr.{Expr}
-use Rattle.psac_syntax.specs.declared.program.ReadItem.{ReadItem}
-use Rattle.psac_syntax.specs.declared.program.Stmt.{Stmt}
 use Rattle.psac_syntax.specs.declared.program.Stmt.TheVariants as stmt
 use Rattle.psac_syntax.specs.declared.program.Program.{Program}
-use Rattle.psac_tokens.specs.declared.token.Kind.{Kind}
 use Rattle.psac_tokens.specs.declared.token.Kind.TheVariants as k
 use Rattle.psac_tokens.specs.declared.token.Token.{Token}
 use Rattle.psac_tokens.specs.Lex.{reserved}
-use Rattle.psac_grammar.specs.Marked.{Mark, fine, Marked, token, AllFine, by_length, by_name, by_names, by_statements, by_bodies, below, max_names}
-use Rattle.psac_grammar.specs.Grammar.{IsExpr, top, call_dests, IsNames, IsValues, IsItems, IsStmts}
-use Rattle.psac_spelling.specs.Canonical.{expr_text, name_text, names_text, item_text, joined, dests_text, header_text, stmt_text, content_text}
-use Rattle.psac_spelling.specs.Unlined.{unlined}
+use Rattle.psac_grammar.specs.Marked.{fine, Marked, token, by_statements}
+use Rattle.psac_grammar.specs.Grammar.{call_dests, IsNames, IsValues, IsStmts}
+use Rattle.psac_spelling.specs.Canonical.{expr_text, name_text, joined, dests_text, header_text}
 use Rattle.psac_spelling.proofs.Layers.{call_text}
 use Rattle.psac_spelling.proofs.Unlined.{unlined_call}
 use Rattle.psac_spelling.proofs.Pieces as pieces
 use Rattle.psac_spelling.proofs.Pieces.{Piece, name, block, Bare, Spelled, space, feed, piece}
 use Rattle.psac_spelling.proofs.Words.{Break, fixed}
 use Rattle.psac_spelling.proofs.Found.{IsName}
-use Rattle.psac_spelling.proofs.Replays.{carried, IsToken, AreTokens}
-use Rattle.psac_spelling.proofs.Tokens.{load, loads, loads-append, cargo, cargo-append, AllGood, good_parts, Cut, cut, Head, head, no_more, fines, fines-append, fine_parts, length_fine, length_is}
-use Rattle.psac_spelling.proofs.Prints.{left_paren, right_paren, carries_none, none_before}
-use Rattle.psac_spelling.proofs.Lists.{Part, carries_name, name_spelled, names_part, values_part, expr_part, items_part}
-use Rattle.psac_spelling.proofs.Statements.{semicolon, Stmts, Adds, One, no_stmts, one_more, moved, body_of, let_one, write_one, new_one, read_one, par_one, if_one}
+use Rattle.psac_spelling.proofs.Replays.{AreTokens}
+use Rattle.psac_spelling.proofs.Tokens.{loads, loads-append, cut, head, no_more, fines, fines-append, length_is}
+use Rattle.psac_spelling.proofs.Prints.{left_paren, right_paren}
+use Rattle.psac_spelling.proofs.Lists.{Part, name_spelled}
+use Rattle.psac_spelling.proofs.Statements.{semicolon, Adds, One, moved}
 
 -- destinations stand behind a space
 pub dests_part : (p : Program) (ds : List ℕ) (cs : List Piece) (D : List Token → Type 0) → Part p (joined (map (name_text p) ds)) cs D → Part p (dests_text p ds) cs D
@@ -78,9 +74,21 @@ header_part p x vt dests cs es V D good y u = record {
         let g = cut u.qs (pieces.plain k.RightParen tt ∷ []) s.more s.rest in
         let z = head (pieces.plain k.RightParen tt) [] g.back g.second in
         record {
-          t = t.one; a = a.one; vs = f.front; s = s.one; ds = g.front; z = z.one;
+          t = t.one;
+          a = a.one;
+          vs = f.front;
+          s = s.one;
+          ds = g.front;
+          z = z.one;
           split = t.split ∙ ap (λ (r : List Token). t.one ∷ r) (a.split ∙ ap (λ (r : List Token). a.one ∷ r) (f.split ∙ ap (λ (r : List Token). f.front ++ r) (s.split ∙ ap (λ (r : List Token). s.one ∷ r) (g.split ∙ ap (λ (r : List Token). g.front ++ r) (z.split ∙ ap (λ (r : List Token). z.one ∷ r) (no_more z.more z.rest))))));
-          t_is = t.is.kind; index = t.is.holds; over = t.is.fits; a_is = a.is.kind; values = y.derives f.front f.first; s_is = s.is.kind; dests = u.derives g.front g.first; z_is = z.is.kind;
+          t_is = t.is.kind;
+          index = t.is.holds;
+          over = t.is.fits;
+          a_is = a.is.kind;
+          values = y.derives f.front f.first;
+          s_is = s.is.kind;
+          dests = u.derives g.front g.first;
+          z_is = z.is.kind;
         }
 
 pub header_fines : (t a s z : Token) (vs ds : List Token) (back : List Marked) → fines (t ∷ a ∷ (vs ++ (s ∷ (ds ++ (z ∷ []))))) ++ back ≡ token t ∷ token a ∷ (fines vs ++ (token s ∷ (fines ds ++ (token z ∷ back))))
@@ -117,7 +125,7 @@ module _ (p : Program) (b n c : ℕ) (low : by_statements c ≡ fine) where
               let e = head (pieces.plain k.Semicolon tt) [] f.back f.second in
               let i = g.derives f.front f.first in
               let split : ts ≡ w.one ∷ ((i.t ∷ i.a ∷ (i.vs ++ (i.s ∷ (i.ds ++ (i.z ∷ []))))) ++ (e.one ∷ [])) =
-                  w.split ∙ ap (λ (r : List Token). w.one ∷ r) (f.split ∙ ap (λ (r : List Token). r ++ f.back) i.split ∙ ap (λ (r : List Token). (i.t ∷ i.a ∷ (i.vs ++ (i.s ∷ (i.ds ++ (i.z ∷ []))))) ++ r) (e.split ∙ ap (λ (r : List Token). e.one ∷ r) (no_more e.more e.rest))) in
+              w.split ∙ ap (λ (r : List Token). w.one ∷ r) (f.split ∙ ap (λ (r : List Token). r ++ f.back) i.split ∙ ap (λ (r : List Token). (i.t ∷ i.a ∷ (i.vs ++ (i.s ∷ (i.ds ++ (i.z ∷ []))))) ++ r) (e.split ∙ ap (λ (r : List Token). e.one ∷ r) (no_more e.more e.rest))) in
               record {
                 new = stmt.Call w.one.line i.t.index values dests;
                 same = unlined_call w.one.line i.t.index values dests ∙ ap (λ j. stmt.Call 0 j values dests) i.index ∙ sym (unlined_call line x values dests);

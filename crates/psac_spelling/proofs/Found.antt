@@ -1,9 +1,9 @@
 -- What the lexer finds of names and texts.
-use Rattle.std.proofs.Common.{◌≡◌, ℕ, suc, zero, ◌+◌, ◌<◌, ◌≤◌, Bool, true, false, not, cond, eqb, ◌&&◌, ◌||◌, List, [], ◌∷◌, ◌++◌, length, take, drop, refl, sym, ap, subst, ◌∙◌, arith, ◌⊎◌, inl, inr, ◌-◌, Option, Some, None}
-use Rattle.std.specs.Prelude.{codes, ◌==◌, nat_lt, if◌then◌else◌, slice_index}
+use Rattle.std.proofs.Common.{◌≡◌, ℕ, suc, zero, ◌+◌, ◌<◌, Bool, true, false, not, cond, ◌&&◌, ◌||◌, List, [], ◌∷◌, take, drop, refl, sym, ap, subst, arith, ◌⊎◌, inl, inr, ◌-◌, Option, Some, None}
+use Rattle.std.specs.Prelude.{◌==◌, nat_lt, if◌then◌else◌, slice_index}
 use Rattle.std.specs.List.{prefix_len}
 use Rattle.std.specs.Str.{is_utf8}
-use Rattle.std.proofs.lemmas.Bool.{and_parts, and_from, or_parts, not_from_false, cond_both, or_right}
+use Rattle.std.proofs.lemmas.Bool.{and_from, not_from_false, cond_both, or_right}
 use Rattle.std.proofs.lemmas.Bool.Decides.{nat_tests}
 use Rattle.psac_tokens.specs.declared.place.Place.{Place}
 use Rattle.psac_tokens.specs.declared.token.Kind.{Kind}

@@ -1,23 +1,21 @@
 -- Functions are spelled and read back as themselves, but for their lines.
-use Rattle.std.proofs.Common.{◌≡◌, ℕ, suc, zero, ◌+◌, List, [], ◌∷◌, ◌++◌, append-nil, append_assoc, length, map, refl, sym, ap, subst, ◌∙◌}
+use Rattle.std.proofs.Common.{◌≡◌, ℕ, ◌+◌, List, [], ◌∷◌, ◌++◌, append_assoc, length, map, refl, sym, ap, subst, ◌∙◌}
 use Rattle.std.specs.Prelude.{codes, flat_map}
 use Rattle.psac_syntax.specs.declared.program.Stmt.{Stmt}
 use Rattle.psac_syntax.specs.declared.program.Func.{Func}
 use Rattle.psac_syntax.specs.declared.program.Program.{Program}
-use Rattle.psac_tokens.specs.declared.token.Kind.{Kind}
 use Rattle.psac_tokens.specs.declared.token.Kind.TheVariants as k
 use Rattle.psac_tokens.specs.declared.token.Token.{Token}
 use Rattle.psac_tokens.specs.Lex.{reserved}
-use Rattle.psac_grammar.specs.Marked.{Mark, fine, Marked, token, AllFine, by_name, by_bodies, by_funcs}
-use Rattle.psac_grammar.specs.Grammar.{header_values, header_dests, IsNames, IsStmts, IsFuncs, function}
-use Rattle.psac_spelling.specs.Canonical.{name_text, joined, header_text, body_text, stmt_text, func_text}
+use Rattle.psac_grammar.specs.Marked.{fine, Marked, token, AllFine, by_name, by_bodies, by_funcs}
+use Rattle.psac_grammar.specs.Grammar.{header_values, header_dests, IsNames, IsFuncs, function}
+use Rattle.psac_spelling.specs.Canonical.{name_text, header_text, body_text, stmt_text, func_text}
 use Rattle.psac_spelling.specs.Unlined.{unlined, func_unlined}
 use Rattle.psac_spelling.proofs.Pieces as pieces
 use Rattle.psac_spelling.proofs.Pieces.{Piece, name, Spelled, space, feed, piece}
 use Rattle.psac_spelling.proofs.Words.{fixed}
-use Rattle.psac_spelling.proofs.Found.{IsName}
-use Rattle.psac_spelling.proofs.Replays.{carried, AreTokens}
-use Rattle.psac_spelling.proofs.Tokens.{loads, loads-append, cargo, cargo-append, AllGood, good_parts, Cut, cut, Head, head, no_more, fines, fines-append, fine_parts, length_is}
+use Rattle.psac_spelling.proofs.Replays.{AreTokens}
+use Rattle.psac_spelling.proofs.Tokens.{loads, loads-append, cargo, AllGood, good_parts, cut, head, no_more, fines, fines-append, fine_parts, length_is}
 use Rattle.psac_spelling.proofs.Prints.{carries_none, none_before}
 use Rattle.psac_spelling.proofs.Lists.{Part, names_part}
 use Rattle.psac_spelling.proofs.Statements.{Body, body_of, body_fines}
@@ -71,9 +69,9 @@ module _ (p : Program) (c : ℕ) (low : by_funcs c ≡ fine) (deep : by_bodies 0
           let header = i.t ∷ i.a ∷ (i.vs ++ (i.s ∷ (i.ds ++ (i.z ∷ [])))) in
           let body = u.l ∷ (u.inside ++ (u.r ∷ [])) in
           let split : ts ≡ w.one ∷ (header ++ (body ++ g.back)) =
-              w.split ∙ ap (λ (z : List Token). w.one ∷ z) (f.split ∙ ap (λ (z : List Token). z ++ f.back) i.split ∙ ap (λ (z : List Token). header ++ z) (g.split ∙ ap (λ (z : List Token). z ++ g.back) u.split)) in
+          w.split ∙ ap (λ (z : List Token). w.one ∷ z) (f.split ∙ ap (λ (z : List Token). z ++ f.back) i.split ∙ ap (λ (z : List Token). header ++ z) (g.split ∙ ap (λ (z : List Token). z ++ g.back) u.split)) in
           let shape : fines ts ≡ token w.one ∷ token i.t ∷ token i.a ∷ (fines i.vs ++ (token i.s ∷ (fines i.ds ++ (token i.z ∷ token u.l ∷ (fines u.inside ++ (token u.r ∷ fines g.back)))))) =
-              ap fines split ∙ ap (λ (z : List Marked). token w.one ∷ z) (fines-append header (body ++ g.back) ∙ ap (λ (z : List Marked). fines header ++ z) (fines-append body g.back ∙ body_fines u.l u.r u.inside (fines g.back)) ∙ header_fines i.t i.a i.s i.z i.vs i.ds (token u.l ∷ (fines u.inside ++ (token u.r ∷ fines g.back)))) in
+          ap fines split ∙ ap (λ (z : List Marked). token w.one ∷ z) (fines-append header (body ++ g.back) ∙ ap (λ (z : List Marked). fines header ++ z) (fines-append body g.back ∙ body_fines u.l u.r u.inside (fines g.back)) ∙ header_fines i.t i.a i.s i.z i.vs i.ds (token u.l ∷ (fines u.inside ++ (token u.r ∷ fines g.back)))) in
           record {
             new = function w.one i.t values dests u.again.new ∷ v.new;
             good = subst (λ m. IsFuncs c m (function w.one i.t values dests u.again.new ∷ v.new)) (sym shape)
@@ -94,12 +92,12 @@ pub funcs : (p : Program) (c : ℕ) (ms : List Marked) (fs : List Func) → IsFu
 funcs p _ _ _ (IsFuncs.none c) ok good = no_funcs p c
 funcs p _ _ _ (IsFuncs.func c w t a s z l r vs ds body ns values dests ss fs hw ht ha y hs u hz hl v hr more) ok good =
     let is : cargo ((w, by_funcs c) ∷ (t, by_name t) ∷ token a ∷ vs ++ (token s ∷ ds ++ (token z ∷ (l, by_bodies 0) ∷ body ++ token r ∷ ns))) ≡ (name t.index ∷ (cargo vs ++ cargo ds)) ++ (cargo body ++ cargo ns) =
-        none_before w (by_funcs c) ((t, by_name t) ∷ token a ∷ vs ++ (token s ∷ ds ++ (token z ∷ (l, by_bodies 0) ∷ body ++ token r ∷ ns))) (carries_none w k.Func hw tt)
-        ∙ name_before t (by_name t) (token a ∷ vs ++ (token s ∷ ds ++ (token z ∷ (l, by_bodies 0) ∷ body ++ token r ∷ ns))) ht
-        ∙ ap (λ i. name t.index ∷ i) (none_before a fine (vs ++ (token s ∷ ds ++ (token z ∷ (l, by_bodies 0) ∷ body ++ token r ∷ ns))) (carries_none a k.LeftParen ha tt)
-        ∙ then_none vs s fine (ds ++ (token z ∷ (l, by_bodies 0) ∷ body ++ token r ∷ ns)) (carries_none s k.Semicolon hs tt)
-        ∙ ap (λ i. cargo vs ++ i) (then_none ds z fine ((l, by_bodies 0) ∷ body ++ token r ∷ ns) (carries_none z k.RightParen hz tt) ∙ ap (λ i. cargo ds ++ i) (none_before l (by_bodies 0) (body ++ token r ∷ ns) (carries_none l k.LeftBrace hl tt) ∙ then_none body r fine ns (carries_none r k.RightBrace hr tt)))
-        ∙ sym (append_assoc (cargo vs) (cargo ds) (cargo body ++ cargo ns))) in
+    none_before w (by_funcs c) ((t, by_name t) ∷ token a ∷ vs ++ (token s ∷ ds ++ (token z ∷ (l, by_bodies 0) ∷ body ++ token r ∷ ns))) (carries_none w k.Func hw tt)
+    ∙ name_before t (by_name t) (token a ∷ vs ++ (token s ∷ ds ++ (token z ∷ (l, by_bodies 0) ∷ body ++ token r ∷ ns))) ht
+    ∙ ap (λ i. name t.index ∷ i) (none_before a fine (vs ++ (token s ∷ ds ++ (token z ∷ (l, by_bodies 0) ∷ body ++ token r ∷ ns))) (carries_none a k.LeftParen ha tt)
+    ∙ then_none vs s fine (ds ++ (token z ∷ (l, by_bodies 0) ∷ body ++ token r ∷ ns)) (carries_none s k.Semicolon hs tt)
+    ∙ ap (λ i. cargo vs ++ i) (then_none ds z fine ((l, by_bodies 0) ∷ body ++ token r ∷ ns) (carries_none z k.RightParen hz tt) ∙ ap (λ i. cargo ds ++ i) (none_before l (by_bodies 0) (body ++ token r ∷ ns) (carries_none l k.LeftBrace hl tt) ∙ then_none body r fine ns (carries_none r k.RightBrace hr tt)))
+    ∙ sym (append_assoc (cargo vs) (cargo ds) (cargo body ++ cargo ns))) in
     let goods = good_parts p (name t.index ∷ (cargo vs ++ cargo ds)) (cargo body ++ cargo ns) (subst (AllGood p) is good) in
     let sides = good_parts p (cargo vs) (cargo ds) goods.0.1 in
     let inner = good_parts p (cargo body) (cargo ns) goods.1 in
@@ -107,7 +105,7 @@ funcs p _ _ _ (IsFuncs.func c w t a s z l r vs ds body ns values dests ss fs hw 
     let later = fine_parts ds (token z ∷ (l, by_bodies 0) ∷ body ++ token r ∷ ns) parts.1.1 in
     let last = fine_parts body (token r ∷ ns) later.1.1.1 in
     let header = header_part p t.index (map (name_text p) values) dests (cargo vs) (cargo ds) (Values values) (Dests values dests) goods.0.0 (names_part p header_values 0 vs values y parts.0 sides.0)
-        (dests_part p dests (cargo ds) (Dests values dests) (names_part p header_dests (length values) ds dests u later.0 sides.1)) in
+    (dests_part p dests (cargo ds) (Dests values dests) (names_part p header_dests (length values) ds dests u later.0 sides.1)) in
     subst (Funcs p c (function w t values dests ss ∷ fs)) (sym is)
     (one_func p c ok.0 later.1.1.0 w.line t.index values dests ss fs (name t.index ∷ (cargo vs ++ cargo ds)) (cargo body) (cargo ns) header
     (body_of p 1 (length values + length dests) ss (cargo body) (stmts p 1 (length values + length dests) 0 body ss v last.0 inner.0)) (funcs p (c + 1) ns fs more last.1.1 inner.1))

@@ -1,9 +1,8 @@
 -- The canonical text of a program is read back as the same program, but for its lines.
-use Rattle.std.proofs.Common.{◌≡◌, ℕ, suc, zero, ◌+◌, ◌<◌, ◌≤◌, List, [], ◌∷◌, ◌++◌, append-nil, length, map, refl, sym, ap, subst, ◌∙◌, arith}
+use Rattle.std.proofs.Common.{◌≡◌, ℕ, ◌+◌, ◌≤◌, List, [], ◌∷◌, ◌++◌, append-nil, length, map, refl, sym, ap, subst, ◌∙◌, arith}
 use Rattle.std.specs.Prelude.{flat_map}
 use Rattle.psac_syntax.specs.declared.program.Func.{Func}
 use Rattle.psac_syntax.specs.declared.program.Program.{Program}
-use Rattle.psac_tokens.specs.declared.place.Place.{Place}
 use Rattle.psac_tokens.specs.declared.token.Kind.TheVariants as k
 use Rattle.psac_tokens.specs.declared.token.Token.{Token}
 use Rattle.psac_tokens.specs.Lex.{lexemes}
@@ -12,16 +11,15 @@ use Rattle.psac_grammar.specs.Marked.{fine, Marked, plain, token, AllFine}
 use Rattle.psac_grammar.specs.Grammar.{IsFuncs, IsText}
 use Rattle.psac_grammar.specs.Language.{IsProgram, program, max_bytes}
 use Rattle.psac_spelling.specs.Canonical.{canonical, func_text}
-use Rattle.psac_spelling.specs.Unlined.{func_unlined, program_unlined, ReadsBack}
-use Rattle.psac_spelling.proofs.Pieces.{Piece, Spelled, nothing, Lexes}
+use Rattle.psac_spelling.specs.Unlined.{func_unlined, ReadsBack}
+use Rattle.psac_spelling.proofs.Pieces.{Piece, Spelled, nothing}
 use Rattle.psac_spelling.proofs.Lexing.{lexes}
-use Rattle.psac_spelling.proofs.Found.{AllSound, all_sound}
-use Rattle.psac_spelling.proofs.Replays.{Replays, replays, carried, NoneOver, Numbered, Counted, numbered, AreTokens}
-use Rattle.psac_spelling.proofs.Tokens.{loads, cargo, AllGood, replay_good, replay_loads, fines, fines-append, plain-fines, all_fine, fine_parts}
+use Rattle.psac_spelling.proofs.Found.{all_sound}
+use Rattle.psac_spelling.proofs.Replays.{Replays, replays, carried, NoneOver, Numbered, Counted, numbered}
+use Rattle.psac_spelling.proofs.Tokens.{cargo, replay_good, replay_loads, fines, fines-append, plain-fines, all_fine, fine_parts}
 use Rattle.psac_spelling.proofs.Prints.{carries_none, none_behind}
-use Rattle.psac_spelling.proofs.Functions.{Funcs, FuncsAgain, funcs}
+use Rattle.psac_spelling.proofs.Functions.{FuncsAgain, funcs}
 use Rattle.psac_spelling.proofs.Within.{text_fits, none_over}
-
 
 -- what a program's own text numbers
 own_replays : (bytes : List ℕ) (fs : List Func) → NoneOver (tokens bytes) → Replays (program bytes fs) [] [] 0 (flat_map carried (tokens bytes))
@@ -60,7 +58,7 @@ read_back p bytes _ _ is same (IsText.text ms f fs e x ends) ok short =
     let y = funcs p 0 ms (f ∷ fs) x (fine_parts ms (token e ∷ []) ok).0 (replay_good p (cargo ms) [] [] 0 mine) in
     let funcs_is : p.funcs ≡ f ∷ fs = ap (λ (q : Program). q.funcs) is in
     let spelled : Spelled p (canonical p) y.qs =
-        subst (λ z. Spelled p z y.qs) (append-nil (flat_map (func_text p) (f ∷ fs)) ∙ ap (flat_map (func_text p)) (sym funcs_is)) (subst (Spelled p (flat_map (func_text p) (f ∷ fs) ++ [])) (append-nil y.qs) (y.spelled [] [] (nothing p))) in
+    subst (λ z. Spelled p z y.qs) (append-nil (flat_map (func_text p) (f ∷ fs)) ∙ ap (flat_map (func_text p)) (sym funcs_is)) (subst (Spelled p (flat_map (func_text p) (f ∷ fs) ++ [])) (append-nil y.qs) (y.spelled [] [] (nothing p))) in
     let read = lexes p (length (canonical p) + 1) (canonical p) y.qs (record { line = 1; column = 1 }) (omega arith) spelled in
     let got = numbered p [] [] 0 y.qs (lexemes (canonical p)) read (replay_loads p y.qs [] [] 0 (subst (Replays p [] [] 0) (sym y.carries) mine)) in
     back bytes f fs p y.qs short got.0 got.1 (y.derives got.0.tokens got.0.are) funcs_is

@@ -1,13 +1,12 @@
 -- Pieces that are spelled with spaces between them are read as these tokens.
-use Rattle.std.proofs.Common.{◌≡◌, ℕ, suc, zero, ◌+◌, ◌<◌, ◌≤◌, Bool, true, false, cond, eqb, List, [], ◌∷◌, ◌++◌, length, length-append, take, drop, refl, sym, ap, subst, ◌∙◌, arith}
+use Rattle.std.proofs.Common.{◌≡◌, ℕ, suc, zero, ◌<◌, false, cond, eqb, List, [], ◌∷◌, ◌++◌, length, length-append, refl, sym, ap, subst, arith}
 use Rattle.std.proofs.lemmas.List.{take_at, drop_at}
 use Rattle.std.proofs.lemmas.Bool.{ne_eqb}
 use Rattle.psac_syntax.specs.declared.program.Program.{Program}
 use Rattle.psac_tokens.specs.declared.place.Place.{Place}
 use Rattle.psac_tokens.specs.declared.token.Kind.{Kind}
-use Rattle.psac_tokens.specs.declared.token.Kind.TheVariants as k
-use Rattle.psac_tokens.specs.Lex.{Lexeme, skip, front, after, past, lexeme, lexemes_from}
-use Rattle.psac_spelling.proofs.Pieces.{Piece, kind_of, spell, Fronts, Spelled, nothing, space, feed, piece, Lexes}
+use Rattle.psac_tokens.specs.Lex.{Lexeme, skip, front, after, past, lexemes_from}
+use Rattle.psac_spelling.proofs.Pieces.{Piece, kind_of, spell, Spelled, nothing, space, feed, piece, Lexes}
 
 no_end : (size : ℕ) (more : List Lexeme) → 0 < size → cond (eqb size 0) [] more ≡ more
 no_end size more some = rw (ne_eqb size 0 (λ e. omega arith)) refl

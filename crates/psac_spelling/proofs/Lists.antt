@@ -1,24 +1,22 @@
 -- Lists of names, of values and of reads are spelled and read back as themselves.
-use Rattle.std.proofs.Common.{◌≡◌, ℕ, suc, zero, ◌+◌, ◌<◌, ◌≤◌, true, false, List, [], ◌∷◌, ◌++◌, append-nil, append_assoc, map, refl, sym, ap, subst, ◌∙◌, arith}
+use Rattle.std.proofs.Common.{◌≡◌, ℕ, ◌+◌, ◌<◌, false, List, [], ◌∷◌, ◌++◌, append_assoc, map, refl, sym, ap, subst, ◌∙◌, arith}
 use Rattle.std.specs.Prelude.{codes}
 use Rattle.psac_syntax.specs.declared.program.Expr.{Expr}
 use Rattle.psac_syntax.specs.declared.program.ReadItem.{ReadItem}
 use Rattle.psac_syntax.specs.declared.program.Program.{Program}
-use Rattle.psac_tokens.specs.declared.token.Kind.{Kind}
 use Rattle.psac_tokens.specs.declared.token.Kind.TheVariants as k
 use Rattle.psac_tokens.specs.declared.token.Token.{Token}
-use Rattle.psac_tokens.specs.Lex.{reserved, front}
-use Rattle.psac_grammar.specs.Marked.{Mark, fine, Marked, token, AllFine, by_length, by_names, by_dests, by_values, below, begins_with, max_names, max_given}
+use Rattle.psac_tokens.specs.Lex.{reserved}
+use Rattle.psac_grammar.specs.Marked.{Mark, fine, Marked, token, AllFine, by_names, by_values, below, begins_with, max_names, max_given}
 use Rattle.psac_grammar.specs.Grammar.{IsExpr, top, NameList, header_values, header_dests, call_dests, by_list, IsMoreNames, IsNames, IsMoreValues, IsValues, IsMoreItems, IsItems, item, most_items}
-use Rattle.psac_grammar.specs.Grammar as grammar
 use Rattle.psac_spelling.specs.Canonical.{expr_text, name_text, item_text, behind, joined}
 use Rattle.psac_spelling.proofs.Pieces as pieces
 use Rattle.psac_spelling.proofs.Pieces.{Piece, name, Bare, Spelled, space, piece}
 use Rattle.psac_spelling.proofs.Words.{Break, fixed, word_fronts}
 use Rattle.psac_spelling.proofs.Found.{IsName}
-use Rattle.psac_spelling.proofs.Replays.{carried, IsToken, AreTokens}
-use Rattle.psac_spelling.proofs.Tokens.{load, loads, loads-append, cargo, cargo-append, cargo_begins, AllGood, good_parts, Cut, cut, Head, head, no_more, fines, fines-append, fine_parts, begin_fine, begin_with_fine, length_fine, length_is}
-use Rattle.psac_spelling.proofs.Prints.{Prints, prints, comma, loosest, expr_some, carries_none, none_before}
+use Rattle.psac_spelling.proofs.Replays.{carried, AreTokens}
+use Rattle.psac_spelling.proofs.Tokens.{loads, loads-append, cargo, cargo-append, cargo_begins, AllGood, good_parts, cut, head, no_more, fines, fines-append, fine_parts, begin_fine, begin_with_fine, length_fine, length_is}
+use Rattle.psac_spelling.proofs.Prints.{prints, comma, loosest, expr_some, carries_none, none_before}
 
 -- A part of a text has pieces that carry what its tokens did, spell it, and are such a part again.
 pub record Part (p : Program) (text : List ℕ) (cs : List Piece) (D : List Token → Type 0) : Type 0 where
@@ -108,7 +106,7 @@ module _ (p : Program) where
   more_values _ _ _ (IsMoreValues.none n) ok good = none_part p (λ ts. IsMoreValues n (fines ts) []) (IsMoreValues.none n)
   more_values _ _ _ (IsMoreValues.more n d c ms ns e es hc x v) ok good =
       let is : cargo (token c ∷ begins_with (by_values n) ms ++ ns) ≡ cargo ms ++ cargo ns =
-          none_before c fine (begins_with (by_values n) ms ++ ns) (carries_none c k.Comma hc tt) ∙ cargo-append (begins_with (by_values n) ms) ns ∙ ap (λ z. z ++ cargo ns) (cargo_begins (by_values n) ms) in
+      none_before c fine (begins_with (by_values n) ms ++ ns) (carries_none c k.Comma hc tt) ∙ cargo-append (begins_with (by_values n) ms) ns ∙ ap (λ z. z ++ cargo ns) (cargo_begins (by_values n) ms) in
       let goods = good_parts p (cargo ms) (cargo ns) (subst (AllGood p) is good) in
       let parts = fine_parts (begins_with (by_values n) ms) ns ok.1 in
       let first = begin_fine (by_values n) ms (expr_some top 0 d ms e x) parts.0 in
@@ -204,7 +202,7 @@ module _ (p : Program) where
   more_items _ _ _ _ (IsMoreItems.none n count) ok good = none_part p (λ ts. IsMoreItems n count (fines ts) []) (IsMoreItems.none n count)
   more_items _ _ _ _ (IsMoreItems.more n count d c w t ms ns e items room hc x hw ht v) ok good =
       let is : cargo (token c ∷ ms ++ (token w ∷ (t, by_names (n + count) t) ∷ ns)) ≡ cargo ms ++ (name t.index ∷ cargo ns) =
-          none_before c fine (ms ++ (token w ∷ (t, by_names (n + count) t) ∷ ns)) (carries_none c k.Comma hc tt) ∙ item_cargo w t (by_names (n + count) t) ms ns hw ht in
+      none_before c fine (ms ++ (token w ∷ (t, by_names (n + count) t) ∷ ns)) (carries_none c k.Comma hc tt) ∙ item_cargo w t (by_names (n + count) t) ms ns hw ht in
       let goods = good_parts p (cargo ms) (name t.index ∷ cargo ns) (subst (AllGood p) is good) in
       let parts = fine_parts ms (token w ∷ (t, by_names (n + count) t) ∷ ns) ok.1 in
       let y = expr_part p top d ms e x parts.0 goods.0 in

@@ -1,15 +1,15 @@
 -- An INT is read back from its digits.
-use Rattle.std.proofs.Common.{◌≡◌, ℕ, suc, zero, pos, ◌+◌, ◌-◌, ◌*◌, ◌/◌, ◌%◌, ◌<◌, ◌≤◌, ◌^◌, Bool, true, false, not, cond, eqb, ltb, ◌&&◌, ◌||◌, List, [], ◌∷◌, ◌++◌, length, length-append, refl, sym, ap, subst, ◌∙◌, arith, Option, Some, None}
+use Rattle.std.proofs.Common.{◌≡◌, ℕ, pos, ◌+◌, ◌-◌, ◌*◌, ◌/◌, ◌%◌, ◌<◌, ◌≤◌, ◌^◌, Bool, true, false, List, [], ◌∷◌, ◌++◌, length, length-append, refl, ap, ◌∙◌, arith, Some, None}
 use Rattle.std.specs.Prelude.{decimal, nat_lt, if◌then◌else◌}
 use Rattle.std.specs.List.{prefix_len}
-use Rattle.std.proofs.lemmas.Bool.{and_parts, and_from, ltb-true, lt-ltb}
+use Rattle.std.proofs.lemmas.Bool.{and_parts, and_from, lt-ltb}
 use Rattle.std.proofs.lemmas.Bool.Decides.{nat_tests}
 use Rattle.std.proofs.lemmas.Fmt.{decimal_by_steps}
 use Rattle.psac_syntax.specs.declared.program.Program.{Program}
 use Rattle.psac_tokens.specs.declared.token.Kind.TheVariants as k
 use Rattle.psac_tokens.specs.Lex.{is_digit, front}
 use Rattle.psac_tokens.specs.Number.{int_after, int_of}
-use Rattle.psac_spelling.proofs.Pieces.{Piece, number, Fronts}
+use Rattle.psac_spelling.proofs.Pieces.{number, Fronts}
 use Rattle.psac_spelling.proofs.Words.{all_pass, prefix_all, digits_end, digit_solid, digit_no_letter, Break, fronts_at}
 
 all_pass-append : (test : ℕ → Bool) (x y : List ℕ) → all_pass test x ≡ true → all_pass test y ≡ true → all_pass test (x ++ y) ≡ true

@@ -1,21 +1,20 @@
 -- How each operator is spelled.
-use Rattle.std.proofs.Common.{◌≡◌, ℕ, suc, zero, ◌+◌, ◌<◌, ◌≤◌, Bool, true, false, List, [], ◌∷◌, ◌++◌, append-nil, append_assoc, map, refl, sym, ap, subst, ◌∙◌, arith, Option, Some, None}
+use Rattle.std.proofs.Common.{◌≡◌, ℕ, suc, zero, ◌<◌, true, false, List, [], ◌∷◌, ◌++◌, append-nil, append_assoc, refl, ap, subst, ◌∙◌, arith, Some}
 use Rattle.std.specs.Prelude.{codes}
 use Rattle.psac_ops.specs.declared.op.Op.{Op}
 use Rattle.psac_ops.specs.declared.op.Op.TheVariants as op
 use Rattle.psac_ops.specs.Written.{name_of, is_infix}
 use Rattle.psac_syntax.specs.declared.program.Expr.{Expr}
-use Rattle.psac_syntax.specs.declared.program.Expr.TheVariants as expr
 use Rattle.psac_syntax.specs.declared.program.Program.{Program}
 use Rattle.psac_tokens.specs.declared.token.Kind.{Kind}
 use Rattle.psac_tokens.specs.declared.token.Kind.TheVariants as k
 use Rattle.psac_tokens.specs.declared.token.Token.{Token}
 use Rattle.psac_tokens.specs.Lex.{reserved, front}
-use Rattle.psac_grammar.specs.Grammar.{Start, constant, one, two, inner, row_word, no_start, start_of, operator_at, product_of, sum_of, comparison_of, and_of, or_of, apply_one, apply_two}
+use Rattle.psac_grammar.specs.Grammar.{one, two, start_of, operator_at, product_of, sum_of, comparison_of, and_of, or_of, apply_one, apply_two}
 use Rattle.psac_spelling.specs.Canonical.{expr_text, applied, between, named}
 use Rattle.psac_spelling.proofs.Layers.{apply_text, cell_text}
-use Rattle.psac_spelling.proofs.Pieces.{Piece, plain, Bare, kind_text, Fronts}
-use Rattle.psac_spelling.proofs.Words.{Break, fixed, fronts_at}
+use Rattle.psac_spelling.proofs.Pieces.{plain, Bare, kind_text, Fronts}
+use Rattle.psac_spelling.proofs.Words.{fixed, fronts_at}
 
 -- an operator between operands of a level
 pub record Infix (n : ℕ) (kind : Kind) (o : Op) : Type 0 where

@@ -1,5 +1,5 @@
 -- An expression of the grammar is spelled and read back as itself.
-use Rattle.std.proofs.Common.{◌≡◌, ℕ, ℤ, pos, suc, zero, ◌+◌, ◌-◌, ◌<◌, ◌≤◌, max, Bool, true, false, List, [], ◌∷◌, ◌++◌, append-nil, append_assoc, map, refl, sym, ap, subst, ◌∙◌, arith, Option, Some, None}
+use Rattle.std.proofs.Common.{◌≡◌, ℕ, ℤ, suc, zero, ◌+◌, ◌-◌, ◌<◌, ◌≤◌, max, Bool, true, false, List, [], ◌∷◌, ◌++◌, append-nil, append_assoc, refl, sym, ap, subst, ◌∙◌, arith, Some}
 use Rattle.std.specs.Prelude.{codes}
 use Rattle.psac_ops.specs.declared.op.Op.{Op}
 use Rattle.psac_syntax.specs.declared.program.Expr.{Expr}
@@ -9,8 +9,8 @@ use Rattle.psac_tokens.specs.declared.token.Kind.{Kind}
 use Rattle.psac_tokens.specs.declared.token.Kind.TheVariants as k
 use Rattle.psac_tokens.specs.declared.token.Token.{Token}
 use Rattle.psac_tokens.specs.Lex.{reserved, front}
-use Rattle.psac_grammar.specs.Marked.{Mark, fine, Marked, token, AllFine, plain, by_size, by_parens, is_deep, ends_deep}
-use Rattle.psac_grammar.specs.Grammar.{IsExpr, whole, rows, row_count, parenthesized, with_one, with_two, alone, chain, compare, Start, constant, one, two, inner, row_word, start_of, operator_at, is_chain, top, apply_two}
+use Rattle.psac_grammar.specs.Marked.{Mark, fine, Marked, token, AllFine, by_parens, is_deep, ends_deep}
+use Rattle.psac_grammar.specs.Grammar.{IsExpr, whole, rows, row_count, parenthesized, with_one, with_two, alone, chain, compare, constant, inner, row_word, start_of, operator_at, is_chain, top, apply_two}
 use Rattle.psac_spelling.specs.Canonical.{expr_text}
 use Rattle.psac_spelling.proofs.Layers.{nil_text, bool_text, int_text, text_text, name_is, rows_text, cols_text, row_count_text}
 use Rattle.psac_spelling.proofs.Pieces as pieces
@@ -19,7 +19,7 @@ use Rattle.psac_spelling.proofs.Words.{Break, fixed, fronts_mark, word_fronts}
 use Rattle.psac_spelling.proofs.Quotes.{text_fronts}
 use Rattle.psac_spelling.proofs.Numbers.{number_fronts}
 use Rattle.psac_spelling.proofs.Replays.{InInt, carried, carried_by, IsToken, AreTokens}
-use Rattle.psac_spelling.proofs.Tokens.{load, loads, loads-append, cargo, cargo-append, cargo_deep, AllGood, good_parts, Cut, cut, Head, head, no_more, fines, fines-append, fine_parts, not_deep, Some-Marked, deep_fine, size_fine, size_is, parens_is, deep_is, shallow}
+use Rattle.psac_spelling.proofs.Tokens.{load, loads, loads-append, cargo, cargo-append, cargo_deep, AllGood, good_parts, cut, head, no_more, fines, fines-append, fine_parts, not_deep, Some-Marked, deep_fine, size_is, parens_is, deep_is, shallow}
 use Rattle.psac_spelling.proofs.Operators.{Infix, infix_of, infix_text, OneOf, one_of, TwoOf, two_of}
 
 -- The expression has pieces that carry what its tokens did, spell its canonical text, and are an expression of the grammar.
@@ -113,7 +113,7 @@ module _ (p : Program) where
       let y = head (pieces.plain k.LeftParen tt) (pieces.plain k.RightParen tt ∷ []) x.more x.rest in
       let z = head (pieces.plain k.RightParen tt) [] y.more y.rest in
       let is : ts ≡ x.one ∷ y.one ∷ z.one ∷ [] =
-          x.split ∙ ap (λ (ys : List Token). x.one ∷ ys) (y.split ∙ ap (λ (ys : List Token). y.one ∷ ys) (z.split ∙ ap (λ (ys : List Token). z.one ∷ ys) (no_more z.more z.rest))) in
+      x.split ∙ ap (λ (ys : List Token). x.one ∷ ys) (y.split ∙ ap (λ (ys : List Token). y.one ∷ ys) (z.split ∙ ap (λ (ys : List Token). z.one ∷ ys) (no_more z.more z.rest))) in
       rw is (rw (parens_is parens (omega arith)) at (row_count parens x.one y.one z.one (rw x.is.kind refl) y.is.kind z.is.kind))
 
   count_leaf : Prints p 1 expr.RowCount []
@@ -171,10 +171,10 @@ module _ (p : Program) (d g : ℕ) (a b : Expr) (cs es : List Piece) (x : Prints
       let right = cut y.qs (pieces.plain k.RightParen tt ∷ []) middle.more middle.rest in
       let end = head (pieces.plain k.RightParen tt) [] right.back right.second in
       let split : ts ≡ first.one ∷ (left.front ++ (middle.one ∷ (right.front ++ (end.one ∷ [])))) =
-          first.split ∙ ap (λ (z : List Token). first.one ∷ z) (left.split ∙ ap (λ (z : List Token). left.front ++ z) (middle.split ∙ ap (λ (z : List Token). middle.one ∷ z)
-          (right.split ∙ ap (λ (z : List Token). right.front ++ z) (end.split ∙ ap (λ (z : List Token). end.one ∷ z) (no_more end.more end.rest))))) in
+      first.split ∙ ap (λ (z : List Token). first.one ∷ z) (left.split ∙ ap (λ (z : List Token). left.front ++ z) (middle.split ∙ ap (λ (z : List Token). middle.one ∷ z)
+      (right.split ∙ ap (λ (z : List Token). right.front ++ z) (end.split ∙ ap (λ (z : List Token). end.one ∷ z) (no_more end.more end.rest))))) in
       let whole = operated n (parens + 1) d g middle.one o (fines left.front) (fines right.front) a b i.low (ap (operator_at n) middle.is.kind ∙ is)
-          (x.derives (parens + 1) left.front (omega arith) left.first) (y.derives (parens + 1) right.front (omega arith) right.first) shallow in
+      (x.derives (parens + 1) left.front (omega arith) left.first) (y.derives (parens + 1) right.front (omega arith) right.first) shallow in
       rw (split, between_fines first.one middle.one end.one left.front right.front)
       (rw (parens_is parens (omega arith)) at (parenthesized parens (max d g + 1) first.one end.one (fines left.front ++ token middle.one ∷ fines right.front) (apply_two o a b) (ap (λ r. start_of r first.one) first.is.kind) whole end.is.kind))
 
@@ -206,7 +206,7 @@ module _ (p : Program) (d : ℕ) (a : Expr) (cs : List Piece) (x : Prints p d a 
       let inside = cut x.qs (pieces.plain k.RightParen tt ∷ []) first.more first.rest in
       let end = head (pieces.plain k.RightParen tt) [] inside.back inside.second in
       let split : ts ≡ word.one ∷ first.one ∷ (inside.front ++ (end.one ∷ [])) =
-          word.split ∙ ap (λ (z : List Token). word.one ∷ z) (first.split ∙ ap (λ (z : List Token). first.one ∷ z) (inside.split ∙ ap (λ (z : List Token). inside.front ++ z) (end.split ∙ ap (λ (z : List Token). end.one ∷ z) (no_more end.more end.rest)))) in
+      word.split ∙ ap (λ (z : List Token). word.one ∷ z) (first.split ∙ ap (λ (z : List Token). first.one ∷ z) (inside.split ∙ ap (λ (z : List Token). inside.front ++ z) (end.split ∙ ap (λ (z : List Token). end.one ∷ z) (no_more end.more end.rest)))) in
       rw (split, fines-append inside.front (end.one ∷ []))
       (rw (parens_is parens (omega arith)) at (rw (deep_is (d + 1) shallow) at
       (with_one parens d word.one first.one end.one f (fines inside.front) a (ap (λ r. start_of r word.one) word.is.kind ∙ o.starts word.one) first.is.kind (loosest (x.derives (parens + 1) inside.front (omega arith) inside.first)) end.is.kind)))
@@ -243,8 +243,8 @@ module _ (p : Program) (d g : ℕ) (a b : Expr) (cs es : List Piece) (x : Prints
       let right = cut y.qs (pieces.plain k.RightParen tt ∷ []) middle.more middle.rest in
       let end = head (pieces.plain k.RightParen tt) [] right.back right.second in
       let split : ts ≡ word.one ∷ first.one ∷ (left.front ++ (middle.one ∷ (right.front ++ (end.one ∷ [])))) =
-          word.split ∙ ap (λ (z : List Token). word.one ∷ z) (first.split ∙ ap (λ (z : List Token). first.one ∷ z) (left.split ∙ ap (λ (z : List Token). left.front ++ z) (middle.split ∙ ap (λ (z : List Token). middle.one ∷ z)
-          (right.split ∙ ap (λ (z : List Token). right.front ++ z) (end.split ∙ ap (λ (z : List Token). end.one ∷ z) (no_more end.more end.rest)))))) in
+      word.split ∙ ap (λ (z : List Token). word.one ∷ z) (first.split ∙ ap (λ (z : List Token). first.one ∷ z) (left.split ∙ ap (λ (z : List Token). left.front ++ z) (middle.split ∙ ap (λ (z : List Token). middle.one ∷ z)
+      (right.split ∙ ap (λ (z : List Token). right.front ++ z) (end.split ∙ ap (λ (z : List Token). end.one ∷ z) (no_more end.more end.rest)))))) in
       rw (split, two_fines word.one first.one middle.one end.one left.front right.front)
       (rw (parens_is parens (omega arith)) at (rw (deep_is (max d g + 1) shallow) at
       (with_two parens d g word.one first.one middle.one end.one f (fines left.front) (fines right.front) a b (ap (λ r. start_of r word.one) word.is.kind ∙ o.starts word.one) first.is.kind
@@ -336,7 +336,7 @@ prints p _ _ _ _ _ (with_one q d w a b f ms e h i x j) ok good =
     let o = one_of w.kind w f h in
     let parts = fine_parts ms (ends_deep (is_deep (d + 1)) (token b ∷ [])) ok.1.1 in
     let is = none_before w fine ((a, by_parens q) ∷ ms ++ ends_deep (is_deep (d + 1)) (token b ∷ [])) (carries_none w w.kind refl o.bare) ∙ none_before a (by_parens q) (ms ++ ends_deep (is_deep (d + 1)) (token b ∷ [])) (carries_none a k.LeftParen i tt)
-        ∙ none_behind b _ ms (carries_none b k.RightParen j tt) in
+    ∙ none_behind b _ ms (carries_none b k.RightParen j tt) in
     subst (Prints p (d + 1) (f e)) (sym is)
     (one_prints p d e (cargo ms) (prints p top (q + 1) d ms e x parts.0 (subst (AllGood p) is good)) (shallow (d + 1) (one_deep (is_deep (d + 1)) b parts.1)) w.kind f o)
 prints p _ _ _ _ _ (with_two q d g w a b c f ms ns x y h i l j m r) ok good =
@@ -345,8 +345,8 @@ prints p _ _ _ _ _ (with_two q d g w a b c f ms ns x y h i l j m r) ok good =
     let parts = fine_parts ms (token b ∷ ns ++ last) ok.1.1 in
     let more = fine_parts ns last parts.1.1 in
     let is : cargo (token w ∷ (a, by_parens q) ∷ ms ++ (token b ∷ ns ++ last)) ≡ cargo ms ++ cargo ns =
-        none_before w fine ((a, by_parens q) ∷ ms ++ (token b ∷ ns ++ last)) (carries_none w w.kind refl o.bare) ∙ none_before a (by_parens q) (ms ++ (token b ∷ ns ++ last)) (carries_none a k.LeftParen i tt)
-        ∙ cargo-append ms (token b ∷ ns ++ last) ∙ ap (λ z. cargo ms ++ z) (none_before b fine (ns ++ last) (carries_none b k.Comma j tt) ∙ none_behind c _ ns (carries_none c k.RightParen r tt)) in
+    none_before w fine ((a, by_parens q) ∷ ms ++ (token b ∷ ns ++ last)) (carries_none w w.kind refl o.bare) ∙ none_before a (by_parens q) (ms ++ (token b ∷ ns ++ last)) (carries_none a k.LeftParen i tt)
+    ∙ cargo-append ms (token b ∷ ns ++ last) ∙ ap (λ z. cargo ms ++ z) (none_before b fine (ns ++ last) (carries_none b k.Comma j tt) ∙ none_behind c _ ns (carries_none c k.RightParen r tt)) in
     let goods = good_parts p (cargo ms) (cargo ns) (subst (AllGood p) is good) in
     subst (Prints p (max d g + 1) (f x y)) (sym is)
     (two_prints p d g x y (cargo ms) (cargo ns) (prints p top (q + 1) d ms x l parts.0 goods.0) (prints p top (q + 1) g ns y m more.0 goods.1) (shallow (max d g + 1) (one_deep (is_deep (max d g + 1)) c more.1)) w.kind f o)

@@ -1,15 +1,14 @@
 -- A TEXT is read back from its canonical spelling.
-use Rattle.std.proofs.Common.{◌≡◌, ℕ, suc, zero, ◌+◌, ◌<◌, ◌≤◌, Bool, true, false, not, cond, eqb, ◌&&◌, ◌||◌, List, [], ◌∷◌, ◌++◌, append_assoc, length, length-append, refl, sym, ap, subst, ◌∙◌, arith, Option, Some, None}
-use Rattle.std.specs.Prelude.{codes, ◌==◌, flat_map, nat_lt}
+use Rattle.std.proofs.Common.{◌≡◌, ℕ, ◌+◌, Bool, true, false, not, eqb, ◌||◌, List, [], ◌∷◌, ◌++◌, append_assoc, length, length-append, refl, sym, ap, subst, ◌∙◌, arith, Some}
+use Rattle.std.specs.Prelude.{◌==◌, flat_map, nat_lt}
 use Rattle.std.specs.Str.{is_utf8}
-use Rattle.std.proofs.lemmas.Bool.{and_parts, not-true, or_parts, eqb-true}
+use Rattle.std.proofs.lemmas.Bool.{and_parts, eqb-true}
 use Rattle.std.proofs.lemmas.Bool.Decides.{nat_tests}
 use Rattle.psac_syntax.specs.declared.program.Program.{Program}
 use Rattle.psac_tokens.specs.declared.token.Kind.TheVariants as k
 use Rattle.psac_tokens.specs.Lex.{front, closing, content}
-use Rattle.psac_tokens.specs.Lex as lex
-use Rattle.psac_spelling.specs.Canonical.{escaped, bytes_at, quoted}
-use Rattle.psac_spelling.proofs.Pieces.{Piece, text, Fronts}
+use Rattle.psac_spelling.specs.Canonical.{escaped, bytes_at}
+use Rattle.psac_spelling.proofs.Pieces.{text, Fronts}
 use Rattle.psac_spelling.proofs.Words.{all_pass, fronts_at}
 
 -- a byte that a TEXT may stand for

@@ -1,9 +1,8 @@
 -- Names, texts and reads are numbered again as they were.
-use Rattle.std.proofs.Common.{◌≡◌, ℕ, ℤ, pos, suc, zero, ◌+◌, ◌-◌, ◌*◌, ◌<◌, ◌≤◌, ◌^◌, Bool, true, false, not, cond, eqb, ltb, List, [], ◌∷◌, ◌++◌, length, refl, sym, ap, subst, ◌∙◌, arith, Option, Some, None}
-use Rattle.std.specs.Prelude.{◌==◌, nat_lt, flat_map, slice_get, unwrap_or, if◌then◌else◌}
-use Rattle.std.specs.List.{position_or_len}
+use Rattle.std.proofs.Common.{◌≡◌, ℕ, ℤ, pos, suc, zero, ◌+◌, ◌-◌, ◌*◌, ◌<◌, ◌^◌, Bool, true, false, cond, List, [], ◌∷◌, ◌++◌, length, refl, sym, ap, subst, arith, Option, Some, None}
+use Rattle.std.specs.Prelude.{◌==◌, nat_lt, flat_map, slice_get, if◌then◌else◌}
 use Rattle.std.specs.Str.{bytes_eq}
-use Rattle.std.proofs.lemmas.Bool.{eqb-true, eqb-false, ltb-true, not_from_true, not_from_false}
+use Rattle.std.proofs.lemmas.Bool.{eqb-true, eqb-false, ltb-true}
 use Rattle.std.proofs.lemmas.Slice.Eq.{bytes_eq-Decides}
 use Rattle.psac_syntax.specs.declared.program.Program.{Program}
 use Rattle.psac_tokens.specs.declared.token.Kind.{Kind}
@@ -226,6 +225,7 @@ numbered p ns ts r [] (x ∷ xs) l h =
 numbered p ns ts r (q ∷ qs) (x ∷ xs) l h =
     let one = one_token p ns ts r q x.line x.column qs h in
     let rest = numbered p (names_with ns (kind_of q) (spell p q)) (texts_with ts (kind_of q) (spell p q)) (reads_with r (kind_of q)) qs xs l.2 one.1 in
-    rw (l.0, l.1)
-    (record { tokens = token_of ns ts r (kind_of q) (spell p q) x.line x.column ∷ rest.0.tokens; last = rest.0.last; split = ap (λ (ys : List Token). token_of ns ts r (kind_of q) (spell p q) x.line x.column ∷ ys) rest.0.split; are = (one.0, rest.0.are); ends = rest.0.ends },
-    rest.1)
+    rw (l.0, l.1) (
+      record { tokens = token_of ns ts r (kind_of q) (spell p q) x.line x.column ∷ rest.0.tokens; last = rest.0.last; split = ap (λ (ys : List Token). token_of ns ts r (kind_of q) (spell p q) x.line x.column ∷ ys) rest.0.split; are = (one.0, rest.0.are); ends = rest.0.ends },
+      rest.1,
+    )

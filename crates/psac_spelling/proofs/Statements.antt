@@ -1,5 +1,5 @@
 -- Statements are spelled and read back as themselves, but for their lines.
-use Rattle.std.proofs.Common.{◌≡◌, ℕ, suc, zero, ◌+◌, ◌<◌, ◌≤◌, true, false, List, [], ◌∷◌, ◌++◌, append-nil, append_assoc, length, map, refl, sym, ap, subst, ◌∙◌, arith}
+use Rattle.std.proofs.Common.{◌≡◌, ℕ, ◌+◌, false, List, [], ◌∷◌, ◌++◌, append-nil, append_assoc, length, map, refl, sym, ap, subst, ◌∙◌}
 use Rattle.std.specs.Prelude.{codes}
 use Rattle.psac_syntax.specs.declared.program.Expr.{Expr}
 use Rattle.psac_syntax.specs.declared.program.ReadItem.{ReadItem}
@@ -10,20 +10,19 @@ use Rattle.psac_tokens.specs.declared.token.Kind.{Kind}
 use Rattle.psac_tokens.specs.declared.token.Kind.TheVariants as k
 use Rattle.psac_tokens.specs.declared.token.Token.{Token}
 use Rattle.psac_tokens.specs.Lex.{reserved, front}
-use Rattle.psac_grammar.specs.Marked.{Mark, fine, Marked, token, AllFine, by_length, by_name, by_names, by_statements, by_bodies, below, max_names}
-use Rattle.psac_grammar.specs.Grammar.{IsExpr, top, call_dests, IsNames, IsValues, IsItems, IsStmts}
-use Rattle.psac_spelling.specs.Canonical.{expr_text, name_text, names_text, item_text, joined, dests_text, header_text, assigned, all_lines, body_text, stmt_text, content_text}
+use Rattle.psac_grammar.specs.Marked.{fine, Marked, token, by_statements, by_bodies, below, max_names}
+use Rattle.psac_grammar.specs.Grammar.{IsExpr, top, IsItems, IsStmts}
+use Rattle.psac_spelling.specs.Canonical.{expr_text, name_text, item_text, joined, all_lines, body_text, stmt_text, content_text}
 use Rattle.psac_spelling.specs.Unlined.{unlined}
-use Rattle.psac_spelling.proofs.Layers.{stmt_is, let_text, new_text, write_text, read_text, if_text, par_text, call_text}
-use Rattle.psac_spelling.proofs.Unlined.{unlined_let, unlined_new, unlined_write, unlined_read, unlined_if, unlined_par, unlined_call}
+use Rattle.psac_spelling.proofs.Layers.{stmt_is, let_text, new_text, write_text, read_text, if_text, par_text}
+use Rattle.psac_spelling.proofs.Unlined.{unlined_let, unlined_new, unlined_write, unlined_read, unlined_if, unlined_par}
 use Rattle.psac_spelling.proofs.Pieces as pieces
 use Rattle.psac_spelling.proofs.Pieces.{Piece, name, block, Bare, Fronts, Spelled, space, feed, piece}
-use Rattle.psac_spelling.proofs.Words.{Break, fixed, fronts_mark, fronts_at, word_fronts}
+use Rattle.psac_spelling.proofs.Words.{fixed, fronts_mark, fronts_at, word_fronts}
 use Rattle.psac_spelling.proofs.Found.{IsName}
-use Rattle.psac_spelling.proofs.Replays.{carried, IsToken, AreTokens}
-use Rattle.psac_spelling.proofs.Tokens.{load, loads, loads-append, cargo, cargo-append, AllGood, good_parts, Cut, cut, Head, head, no_more, fines, fines-append, fine_parts, length_fine, length_is}
-use Rattle.psac_spelling.proofs.Prints.{left_paren, right_paren, carries_none, none_before, none_behind}
-use Rattle.psac_spelling.proofs.Lists.{Part, none_part, carries_name, name_spelled, names_part, values_part, expr_part, items_part, names_fine}
+use Rattle.psac_spelling.proofs.Replays.{AreTokens}
+use Rattle.psac_spelling.proofs.Tokens.{loads, loads-append, cut, head, no_more, fines, fines-append, length_is}
+use Rattle.psac_spelling.proofs.Lists.{Part, name_spelled}
 
 -- ---- margins
 
@@ -150,9 +149,13 @@ body_of p b n ss cs x = record {
         let c = cut x.qs (pieces.plain k.RightBrace tt ∷ []) a.more a.rest in
         let e = head (pieces.plain k.RightBrace tt) [] c.back c.second in
         record {
-          l = a.one; inside = c.front; r = e.one;
+          l = a.one;
+          inside = c.front;
+          r = e.one;
           split = a.split ∙ ap (λ (z : List Token). a.one ∷ z) (c.split ∙ ap (λ (z : List Token). c.front ++ z) (e.split ∙ ap (λ (z : List Token). e.one ∷ z) (no_more e.more e.rest)));
-          l_is = a.is.kind; r_is = e.is.kind; again = x.derives c.front c.first;
+          l_is = a.is.kind;
+          r_is = e.is.kind;
+          again = x.derives c.front c.first;
         }
 
 -- ---- one statement
@@ -191,9 +194,19 @@ assigns d x e first bare xs one ts h =
     let f = cut xs (pieces.plain k.Semicolon tt ∷ []) a.more a.rest in
     let s = head (pieces.plain k.Semicolon tt) [] f.back f.second in
     record {
-      w = w.one; t = t.one; a = a.one; front = f.front; s = s.one;
+      w = w.one;
+      t = t.one;
+      a = a.one;
+      front = f.front;
+      s = s.one;
       split = w.split ∙ ap (λ (z : List Token). w.one ∷ z) (t.split ∙ ap (λ (z : List Token). t.one ∷ z) (a.split ∙ ap (λ (z : List Token). a.one ∷ z) (f.split ∙ ap (λ (z : List Token). f.front ++ z) (s.split ∙ ap (λ (z : List Token). s.one ∷ z) (no_more s.more s.rest)))));
-      w_is = w.is.kind; t_is = t.is.kind; index = t.is.holds; over = t.is.fits; a_is = a.is.kind; expr = one f.front f.first; s_is = s.is.kind;
+      w_is = w.is.kind;
+      t_is = t.is.kind;
+      index = t.is.holds;
+      over = t.is.fits;
+      a_is = a.is.kind;
+      expr = one f.front f.first;
+      s_is = s.is.kind;
     }
 
 assigned_fines : (w t a s : Token) (xs : List Token) (back : List Marked) → fines (w ∷ t ∷ a ∷ (xs ++ (s ∷ []))) ++ back ≡ token w ∷ token t ∷ token a ∷ (fines xs ++ (token s ∷ back))
@@ -363,7 +376,7 @@ module _ (p : Program) (b n c : ℕ) (low : by_statements c ≡ fine) (deep : by
           let one = u.l ∷ (u.inside ++ (u.r ∷ [])) in
           let two = v.l ∷ (v.inside ++ (v.r ∷ [])) in
           let split : ts ≡ w.one ∷ (f.front ++ (one ++ (o.one ∷ two))) =
-              w.split ∙ ap (λ (z : List Token). w.one ∷ z) (f.split ∙ ap (λ (z : List Token). f.front ++ z) (g.split ∙ ap (λ (z : List Token). z ++ g.back) u.split ∙ ap (λ (z : List Token). one ++ z) (o.split ∙ ap (λ (z : List Token). o.one ∷ z) v.split))) in
+          w.split ∙ ap (λ (z : List Token). w.one ∷ z) (f.split ∙ ap (λ (z : List Token). f.front ++ z) (g.split ∙ ap (λ (z : List Token). z ++ g.back) u.split ∙ ap (λ (z : List Token). one ++ z) (o.split ∙ ap (λ (z : List Token). o.one ∷ z) v.split))) in
           record {
             new = stmt.If w.one.line e u.again.new v.again.new;
             same = unlined_if w.one.line e u.again.new v.again.new ∙ ap (λ z. stmt.If 0 e z (map unlined v.again.new)) u.again.same ∙ ap (λ z. stmt.If 0 e (map unlined first) z) v.again.same ∙ sym (unlined_if line e first second);

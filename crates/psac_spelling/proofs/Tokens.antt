@@ -1,18 +1,16 @@
 -- Lists of tokens, of marks and of pieces.
-use Rattle.std.proofs.Common.{◌≡◌, ℕ, suc, zero, ◌+◌, ◌<◌, ◌≤◌, Bool, true, false, cond, ltb, leb, List, [], ◌∷◌, ◌++◌, append_assoc, map, length, refl, sym, ap, subst, ◌∙◌, arith}
+use Rattle.std.proofs.Common.{◌≡◌, ℕ, ◌<◌, ◌≤◌, Bool, true, false, cond, leb, List, [], ◌∷◌, ◌++◌, append_assoc, map, refl, sym, ap, ◌∙◌}
 use Rattle.std.specs.Prelude.{flat_map}
 use Rattle.std.proofs.lemmas.List.{map-append}
-use Rattle.std.proofs.lemmas.Bool.{lt-ltb, le-leb, leb-true, true≢false}
+use Rattle.std.proofs.lemmas.Bool.{lt-ltb, le-leb, leb-true}
 use Rattle.psac_syntax.specs.declared.program.Program.{Program}
-use Rattle.psac_tokens.specs.declared.token.Kind.{Kind}
-use Rattle.psac_tokens.specs.declared.token.Kind.TheVariants as k
 use Rattle.psac_tokens.specs.declared.token.Token.{Token}
-use Rattle.psac_grammar.specs.Marked.{Mark, fine, over, late, Marked, plain, AllFine, token, below, size_limit, by_size, by_length, by_parens, is_deep, deepened, ends_deep, or_else, begins_with}
+use Rattle.psac_grammar.specs.Marked.{Mark, fine, over, late, Marked, plain, AllFine, token, size_limit, by_size, by_length, by_parens, is_deep, deepened, ends_deep, or_else, begins_with}
 use Rattle.psac_spelling.specs.Canonical.{bytes_at, name_text}
 use Rattle.psac_spelling.proofs.Pieces as pieces
 use Rattle.psac_spelling.proofs.Pieces.{Piece, number, name, text, block}
 use Rattle.psac_spelling.proofs.Found.{IsName, IsShown}
-use Rattle.psac_spelling.proofs.Replays.{InInt, Replays, carried, NoneOver, IsToken, AreTokens}
+use Rattle.psac_spelling.proofs.Replays.{InInt, Replays, carried, IsToken, AreTokens}
 
 -- ---- what pieces and tokens carry
 

@@ -1,5 +1,5 @@
 -- The names and numbers of a text within the limits are within theirs.
-use Rattle.std.proofs.Common.{◌≡◌, ℕ, suc, zero, ◌+◌, Bool, true, false, max, List, [], ◌∷◌, ◌++◌, length, refl, sym, ap, subst, ◌∙◌}
+use Rattle.std.proofs.Common.{◌≡◌, ℕ, suc, ◌+◌, Bool, false, max, List, [], ◌∷◌, ◌++◌, length, refl, sym, subst}
 use Rattle.psac_syntax.specs.declared.program.Expr.{Expr}
 use Rattle.psac_syntax.specs.declared.program.ReadItem.{ReadItem}
 use Rattle.psac_syntax.specs.declared.program.Stmt.{Stmt}
@@ -7,8 +7,8 @@ use Rattle.psac_syntax.specs.declared.program.Func.{Func}
 use Rattle.psac_tokens.specs.declared.token.Kind.{Kind}
 use Rattle.psac_tokens.specs.declared.token.Kind.TheVariants as k
 use Rattle.psac_tokens.specs.declared.token.Token.{Token}
-use Rattle.psac_grammar.specs.Marked.{Mark, fine, Marked, plain, token, AllFine, by_size, by_length, by_name, by_names, by_dests, by_values, by_parens, by_bodies, by_statements, by_funcs, below, is_deep, ends_deep, begins_with, max_names, max_given}
-use Rattle.psac_grammar.specs.Grammar.{IsExpr, whole, rows, row_count, parenthesized, with_one, with_two, alone, chain, compare, top, operator_at, NameList, header_values, header_dests, call_dests, by_list, IsMoreNames, IsNames, IsMoreValues, IsValues, IsMoreItems, IsItems, IsStmts, IsFuncs, IsText}
+use Rattle.psac_grammar.specs.Marked.{Mark, fine, Marked, plain, token, AllFine, by_name, by_names, by_values, by_bodies, below, is_deep, ends_deep, begins_with, max_names, max_given}
+use Rattle.psac_grammar.specs.Grammar.{IsExpr, whole, rows, row_count, parenthesized, with_one, with_two, alone, chain, compare, top, NameList, header_values, header_dests, call_dests, by_list, IsMoreNames, IsNames, IsMoreValues, IsValues, IsMoreItems, IsItems, IsStmts, IsFuncs, IsText}
 use Rattle.psac_spelling.proofs.Pieces.{Bare}
 use Rattle.psac_spelling.proofs.Replays.{FitsAs, Fits, NoneOver}
 use Rattle.psac_spelling.proofs.Tokens.{fine_parts, deep_fine, begin_fine, size_fine, length_fine}
@@ -144,29 +144,57 @@ stmts_fit _ _ _ _ _ (IsStmts.read b n c w l r ms body ns items inside ss hw x hl
 stmts_fit _ _ _ _ _ (IsStmts.choose b n c d w l r x o q ms one two ns e first second ss hw y hl u hr hx ho v hq more) ok =
     let parts = fine_parts ms ((l, by_bodies b) ∷ one ++ (token r ∷ token x ∷ (o, by_bodies b) ∷ two ++ token q ∷ ns)) ok.1 in
     let later = fine_parts one (token r ∷ token x ∷ (o, by_bodies b) ∷ two ++ token q ∷ ns) parts.1.1 in
-    let last = fine_parts two (token q ∷ ns) later.1.1.1.1 in
-    (bare w k.If hw tt, join ms _ (expr_fits top 0 d ms e y parts.0) (bare l k.LeftBrace hl tt, join one _ (stmts_fit (b + 1) n 0 one first u later.0)
-    (bare r k.RightBrace hr tt, (bare x k.Else hx tt, (bare o k.LeftBrace ho tt, join two _ (stmts_fit (b + 1) n 0 two second v last.0) (bare q k.RightBrace hq tt, stmts_fit b n (c + 1) ns ss more last.1.1))))))
+    let last = fine_parts two (token q ∷ ns) later.1.1.1.1 in (
+      bare w k.If hw tt,
+      join ms _ (expr_fits top 0 d ms e y parts.0) (
+        bare l k.LeftBrace hl tt,
+        join one _ (stmts_fit (b + 1) n 0 one first u later.0)
+            (bare r k.RightBrace hr tt, (bare x k.Else hx tt, (bare o k.LeftBrace ho tt, join two _ (stmts_fit (b + 1) n 0 two second v last.0) (bare q k.RightBrace hq tt, stmts_fit b n (c + 1) ns ss more last.1.1)))),
+      ),
+    )
 stmts_fit _ _ _ _ _ (IsStmts.both b n c w l r o q one two ns first second ss hw hl u hr ho v hq more) ok =
     let later = fine_parts one (token r ∷ (o, by_bodies b) ∷ two ++ token q ∷ ns) ok.1.1 in
-    let last = fine_parts two (token q ∷ ns) later.1.1.1 in
-    (bare w k.Par hw tt, (bare l k.LeftBrace hl tt, join one _ (stmts_fit (b + 1) n 0 one first u later.0)
-    (bare r k.RightBrace hr tt, (bare o k.LeftBrace ho tt, join two _ (stmts_fit (b + 1) n 0 two second v last.0) (bare q k.RightBrace hq tt, stmts_fit b n (c + 1) ns ss more last.1.1)))))
+    let last = fine_parts two (token q ∷ ns) later.1.1.1 in (
+      bare w k.Par hw tt,
+      (
+        bare l k.LeftBrace hl tt,
+        join one _ (stmts_fit (b + 1) n 0 one first u later.0)
+            (bare r k.RightBrace hr tt, (bare o k.LeftBrace ho tt, join two _ (stmts_fit (b + 1) n 0 two second v last.0) (bare q k.RightBrace hq tt, stmts_fit b n (c + 1) ns ss more last.1.1))),
+      ),
+    )
 stmts_fit _ _ _ _ _ (IsStmts.call b n c w t a s z e vs ds ns values dests ss hw ht ha y hs u hz he more) ok =
     let parts = fine_parts vs (token s ∷ ds ++ (token z ∷ token e ∷ ns)) ok.1.1.1 in
-    let later = fine_parts ds (token z ∷ token e ∷ ns) parts.1.1 in
-    (bare w k.Call hw tt, (short t (name_over t ok.1.0), (bare a k.LeftParen ha tt, join vs _ (values_fit vs values y parts.0)
-    (bare s k.Semicolon hs tt, join ds _ (names_fit call_dests 0 ds dests u later.0) (bare z k.RightParen hz tt, (bare e k.Semicolon he tt, stmts_fit b n (c + 1) ns ss more later.1.1.1))))))
+    let later = fine_parts ds (token z ∷ token e ∷ ns) parts.1.1 in (
+      bare w k.Call hw tt,
+      (
+        short t (name_over t ok.1.0),
+        (
+          bare a k.LeftParen ha tt,
+          join vs _ (values_fit vs values y parts.0)
+              (bare s k.Semicolon hs tt, join ds _ (names_fit call_dests 0 ds dests u later.0) (bare z k.RightParen hz tt, (bare e k.Semicolon he tt, stmts_fit b n (c + 1) ns ss more later.1.1.1))),
+        ),
+      ),
+    )
 
 pub funcs_fit : (c : ℕ) (ms : List Marked) (fs : List Func) → IsFuncs c ms fs → AllFine ms → AllFit ms
 funcs_fit _ _ _ (IsFuncs.none c) ok = tt
 funcs_fit _ _ _ (IsFuncs.func c w t a s z l r vs ds body ns values dests ss fs hw ht ha y hs u hz hl v hr more) ok =
     let parts = fine_parts vs (token s ∷ ds ++ (token z ∷ (l, by_bodies 0) ∷ body ++ token r ∷ ns)) ok.1.1.1 in
     let later = fine_parts ds (token z ∷ (l, by_bodies 0) ∷ body ++ token r ∷ ns) parts.1.1 in
-    let last = fine_parts body (token r ∷ ns) later.1.1.1 in
-    (bare w k.Func hw tt, (short t (name_over t ok.1.0), (bare a k.LeftParen ha tt, join vs _ (names_fit header_values 0 vs values y parts.0)
-    (bare s k.Semicolon hs tt, join ds _ (names_fit header_dests (length values) ds dests u later.0)
-    (bare z k.RightParen hz tt, (bare l k.LeftBrace hl tt, join body _ (stmts_fit 1 (length values + length dests) 0 body ss v last.0) (bare r k.RightBrace hr tt, funcs_fit (c + 1) ns fs more last.1.1)))))))
+    let last = fine_parts body (token r ∷ ns) later.1.1.1 in (
+      bare w k.Func hw tt,
+      (
+        short t (name_over t ok.1.0),
+        (
+          bare a k.LeftParen ha tt,
+          join vs _ (names_fit header_values 0 vs values y parts.0) (
+            bare s k.Semicolon hs tt,
+            join ds _ (names_fit header_dests (length values) ds dests u later.0)
+                (bare z k.RightParen hz tt, (bare l k.LeftBrace hl tt, join body _ (stmts_fit 1 (length values + length dests) 0 body ss v last.0) (bare r k.RightBrace hr tt, funcs_fit (c + 1) ns fs more last.1.1))),
+          ),
+        ),
+      ),
+    )
 
 -- the tokens of a text within the limits
 pub text_fits : (ms : List Marked) (fs : List Func) → IsText ms fs → AllFine ms → AllFit ms

@@ -1,6 +1,6 @@
 -- Words and marks are the longest tokens at the front of a text.
-use Rattle.std.proofs.Common.{◌≡◌, ℕ, suc, zero, ◌+◌, ◌<◌, ◌≤◌, Bool, true, false, not, cond, eqb, leb, ◌&&◌, ◌||◌, List, [], ◌∷◌, ◌++◌, length, get_or, take, drop, refl, sym, ap, subst, ◌∙◌, arith, Option, Some, None}
-use Rattle.std.specs.Prelude.{codes, ◌==◌}
+use Rattle.std.proofs.Common.{◌≡◌, ℕ, suc, ◌+◌, Bool, true, false, not, ◌&&◌, ◌||◌, List, [], ◌∷◌, ◌++◌, length, refl, sym, ap, ◌∙◌, arith}
+use Rattle.std.specs.Prelude.{◌==◌}
 use Rattle.std.specs.List.{prefix_len}
 use Rattle.std.proofs.lemmas.List.{take_at}
 use Rattle.std.proofs.lemmas.Bool.{and_parts, not-true, or_parts}
@@ -8,9 +8,7 @@ use Rattle.std.proofs.lemmas.Bool.Decides.{nat_tests}
 use Rattle.psac_syntax.specs.declared.program.Program.{Program}
 use Rattle.psac_tokens.specs.declared.place.Place.{Place}
 use Rattle.psac_tokens.specs.declared.token.Kind.{Kind}
-use Rattle.psac_tokens.specs.declared.token.Kind.TheVariants as k
-use Rattle.psac_tokens.specs.Lex.{skip, is_blank, is_letter, is_digit, word_len, reserved, front, mark}
-use Rattle.psac_spelling.specs.Canonical.{name_text}
+use Rattle.psac_tokens.specs.Lex.{skip, is_blank, is_letter, is_digit, reserved, front}
 use Rattle.psac_spelling.proofs.Pieces.{Piece, Bare, plain, kind_of, kind_text, spell, Fronts}
 
 abbrev pub is_word : ℕ → Bool
