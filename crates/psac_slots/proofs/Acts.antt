@@ -9,12 +9,12 @@ use Rattle.atomic_table.proofs.Lists.{set_again, set_else}
 use Rattle.psac_slots.specs.declared.view.ClaimView.{ClaimView}
 use Rattle.psac_ops.specs.declared.plain.Handle.{Handle}
 use Rattle.psac_slots.specs.Handles.{Member, word_of, IsHandle, later, slot_times, removed}
-use Rattle.psac_slots.specs.Claiming.{place, Rule, Claimed, IsSole, drew, left_of, right_of, joined, spent, learned, turned, rewound, gave}
+use Rattle.psac_slots.specs.Claiming.{place, Rule, Claimed, IsSole, DrewBelow, drew, left_of, right_of, joined, spent, learned, turned, rewound, gave}
 use Rattle.psac_slots.specs.Steps.{Drew, Learned, Rewound, Gave, Loaded}
 use Rattle.psac_slots.proofs.Sums.{sum_at}
 use Rattle.psac_slots.proofs.Removed.{at_most_once, one_word}
 use Rattle.psac_slots.proofs.Keeps.{draws_at, splits_at, joins_at}
-use Rattle.psac_slots.proofs.Rewinds.{learns_at, rewinds_at, gives_at}
+use Rattle.psac_slots.proofs.Rewinds.{drawn_all, accounted, learns_at, rewinds_at, gives_at}
 
 pub slice_at : (words : List ℕ) (i w : ℕ) → get_elem? words i ≡ some w → slice_index words i ≡ w
 slice_at [] i w e = absurd (some-ne-none w (sym e))
@@ -57,8 +57,7 @@ loads count slots id i v hs live s h sized at fits =
             (slice_at s.words i (word_of x) (ap (get_elem? s.words) spot ∙ h.3.stored k x there), at_all h.2 k x there h.3.sized);
         counter = λ c is e. slice_at s.words i c (ap (get_elem? s.words) is ∙ (h.3.counter_is ∙ ap some (sym (sole_parts v.counter h.0 c v e f.sole).0)));
         once = λ x. let a = sum_at (λ (u : ClaimView). slot_times x u.held) s.views id v at in let b = at_most_once x count in let o = h.3.slots x in omega (arith, a, b, o);
-        room = λ c e. let a = sum_at (λ (u : ClaimView). length u.held) s.views id v at in let o = h.3.all in let k = f.count_is live in
-            let n : length (drop c v.list) ≡ length (drop h.0 h.2) = λ j. length (drop ((sole_parts v.counter h.0 c v e f.sole).0 j) (f.list_is live j)) in omega (arith, a, o, k, n);
+        whole = λ knows. let p = sole_parts v.counter h.0 knows.0 v knows.1 f.sole in accounted count h.0 h.1 h.2 s.words s.views h.3 id v at p.1 p.2 (knows.1 ∙ ap Some p.0);
       },
     )
 
@@ -72,7 +71,7 @@ learns count slots id v hs live empty s h sized at fits =
       tt,
       subst (λ (ws : List ℕ). Rule count ws (set s.views id (learned n v))) (sym (set-get_or s.words 0 0))
           (subst (λ (k : ℕ). Rule count s.words (set s.views id (learned k v))) (sym e) (h.0, h.1, h.2, learns_at count h.0 h.1 h.2 s.words s.views h.3 id v at live empty)),
-      refl,
+      (refl, subst (λ (k : ℕ). DrewBelow k v) (sym e) (drawn_all count h.0 h.1 h.2 s.words s.views h.3 id v at live empty)),
     )
 
 pub rewinds : (count slots id : ℕ) (v : ClaimView) (hs : List (ℕ × Unit {0})) → IsSole v

@@ -1,12 +1,39 @@
 -- What a pass carries after each step.
-use Rattle.std.proofs.Common.{◌≡◌, ℕ, ◌+◌, ◌-◌, ◌<◌, [], ◌∷◌, length, take, refl, ap, ◌∙◌, arith, length-append}
-use Rattle.std.proofs.lemmas.Bool.{cases_lt}
+use Rattle.std.proofs.Common.{◌≡◌, ◌≢◌, ℕ, ◌+◌, ◌-◌, ◌<◌, [], ◌∷◌, length, take, cond, refl, sym, ap, ⊎_elim, ◌∙◌, arith, length-append}
+use Rattle.std.specs.Prelude.{◌==◌}
+use Rattle.std.proofs.lemmas.List.Sums.{sum_by_push}
+use Rattle.std.proofs.lemmas.Bool.{cases_lt, cases_eq, eq-eqb, ne_eqb}
 use Rattle.psac_slots.specs.declared.view.ClaimView.{ClaimView}
 use Rattle.psac_ops.specs.declared.plain.Handle.{Handle}
-use Rattle.psac_slots.specs.Handles.{later}
-use Rattle.psac_slots.specs.Claiming.{right_of, counted, turned, rewound, gave}
+use Rattle.psac_slots.specs.Handles.{later, slot_times, removed}
+use Rattle.psac_slots.specs.Claiming.{Accounted, right_of, counted, turned, rewound, returned, gave}
 use Rattle.psac_slots.specs.Carried.{Carries}
+use Rattle.psac_slots.proofs.Sums.{bit}
+use Rattle.psac_slots.proofs.Removed.{removed_gone, removed_else, removed_length, at_most_once}
 use Rattle.psac_slots.proofs.Rewinds.{parts, turned_low}
+
+module _ (v : ClaimView) (a : Accounted v) (x : Handle) (has : 0 < slot_times x.slot v.held) where
+  -- where a slot is out, the ring has room
+  pub has_room : length v.list < v.count
+  has_room = let b = removed_length x.slot v.held in let c = a.all in omega (arith, b, c, has)
+
+  -- a slot that goes back is in the list from then on, and not held
+  pub accounted_returned : Accounted (returned x v)
+  accounted_returned =
+      let here = a.slots x.slot in
+      let most = at_most_once x.slot v.count in
+      record {
+        all = let l = length-append v.list (x ∷ []) in let b = removed_length x.slot v.held in let c = a.all in omega (arith, l, b, c, has, here, most);
+        slots = λ s. let p = sum_by_push (λ (q : Handle). cond (q.slot == s) 1 0) v.list x in let o = a.slots s in ⊎_elim
+            (λ (e : s ≡ x.slot).
+            let t : bit (x.slot == s) ≡ 1 = ap bit (eq-eqb x.slot s (sym e)) in
+            let g : slot_times s (removed x.slot v.held) ≡ 0 = ap (λ k. slot_times k (removed x.slot v.held)) e ∙ removed_gone x.slot v.held in
+            let h = ap (λ k. slot_times k v.held) e in
+            let m = at_most_once s v.count in
+            omega (arith, p, o, t, g, h, m, has))
+            (λ (n : s ≢ x.slot). let t : bit (x.slot == s) ≡ 0 = ap bit (ne_eqb x.slot s (λ q. n (sym q))) in let g = removed_else s x.slot v.held n in omega (arith, p, o, t, g))
+            (cases_eq s x.slot);
+      }
 
 module _ (count head room words : ℕ) (v : ClaimView) (p : Carries count head room words v) where
   pub same_ring : (w : ClaimView) → w.live ≡ v.live → w.count ≡ v.count → w.head ≡ v.head → w.list ≡ v.list → Carries count head room words w

@@ -8,7 +8,7 @@ use lib.ListN.{get_elem?}
 use Rattle.atomic_table.proofs.Lists.{at_set}
 use Rattle.psac_slots.specs.Branches.{is_prefix, stem}
 use Rattle.psac_slots.specs.Handles.{Member}
-use Rattle.psac_slots.specs.Divided.{Ways, Rights, Own, Beside, Divided, stays, goes, lends, told, left_rights, right_rights, above, comes_back, united, no_rights}
+use Rattle.psac_slots.specs.Divided.{Ways, Rights, Own, Beside, Divided, stays, goes, lends, told, left_rights, right_rights, above, comes_back, united, no_rights, Met}
 use Rattle.psac_slots.proofs.Sums.{all_set}
 use Rattle.psac_slots.proofs.Pairs.{member_left, member_cases, member_filter, filter_member, member_map, one_after, pairs_set, pairs_end}
 use Rattle.psac_slots.proofs.Turns.{prefix_refl, prefix_long, prefix_cases, prefix_next, stem_push}
@@ -207,6 +207,21 @@ module _ {W E : Type 0} (k : Ways W E) where
         (λ x. ⊎_elim (λ p. inl p) (λ q. inr (inl q)) (member_cases m r.alone s.alone x))
         (λ y. let q = member_map k.back m (filter (comes_back k (stem r.branch)) r.shared) y in let z = member_filter (comes_back k (stem r.branch)) q.0 r.shared q.1 in inr (inr (q.0, z.0, q.2, came_back q.0 z.0 z.1)))
         (member_cases m (r.alone ++ s.alone) (map k.back (filter (comes_back k (stem r.branch)) r.shared)) h)
+
+    -- what the right side shares, the left side shares
+    pub shared_same : (e : E) → Member e s.shared → Member e r.shared
+    shared_same e m =
+        let o = (d.own other s at_s).labels e m in
+        let n = ap length sb in
+        let z = length-append b (true ∷ []) in
+        let l = o.1 in
+        (d.beside other id s r at_s ar two).below e m live (ap (λ c. is_prefix (k.label e) c) rb ∙ prefix_long (k.label e) b false (prefix_cut (k.label e) b true (ap (λ c. is_prefix (k.label e) c) (sym sb) ∙ o.0) (omega (arith, n, z, l))))
+
+    pub meets : Met k r.alone s.alone r.shared s.shared
+    meets =
+        let rs = d.beside id other r s ar at_s (λ p. two (sym p)) in
+        let sr = d.beside other id s r at_s ar two in
+        record { alone = rs.alone; left = λ w e p q. rs.apart w p e q; right = λ w e p q. sr.apart w p e q; same = shared_same }
 
     module _ (strange : (j : ℕ) (u : Rights W E) → j ≢ id → j ≢ other → get_elem? all j ≡ some u → u.live ≡ true → Strangers r.branch u.branch × Strangers s.branch u.branch) where
       -- no third pass has what has this label

@@ -1,6 +1,6 @@
 -- A sole pass learns the counter, sets it back, and gives slots back.
 use Rattle.std.proofs.Common.{◌≡◌, ◌≢◌, ◌⊎◌, ℕ, zero, suc, ◌+◌, ◌-◌, ◌%◌, ◌^◌, ◌<◌, ◌≤◌, List, [], ◌∷◌, ◌++◌, length, set, take, drop, Bool, true, false, true≢false, cond, refl, sym, ap, ◌∙◌, subst, inl, inr, ⊎_elim, arith, Some, length-set, length-append, mod-lt}
-use Rattle.std.specs.Prelude.{◌==◌, All}
+use Rattle.std.specs.Prelude.{sum_by, ◌==◌, All}
 use Rattle.std.proofs.lemmas.List.Sums.{sum_by_push}
 use Rattle.std.proofs.lemmas.List.Elements.{All-push}
 use Rattle.std.proofs.lemmas.Bool.{lt-ltb, le-ltb, cases_lt, cases_eq, eq-eqb, ne_eqb}
@@ -11,7 +11,7 @@ use Rattle.atomic_table.proofs.Lists.{set_here, set_else, one_turn}
 use Rattle.psac_slots.specs.declared.view.ClaimView.{ClaimView}
 use Rattle.psac_ops.specs.declared.plain.Handle.{Handle}
 use Rattle.psac_slots.specs.Handles.{Member, word_of, IsHandle, later, slot_times, removed, once_below}
-use Rattle.psac_slots.specs.Claiming.{weight, times, place, Fits, Claimed, learned, counted, turned, rewound, returned, gave}
+use Rattle.psac_slots.specs.Claiming.{weight, times, place, Fits, Claimed, Accounted, DrewBelow, spent, learned, counted, turned, rewound, returned, gave}
 use Rattle.psac_slots.proofs.Sums.{bit, sum_set, sum_at, sum_none, all_set, at_drop, at_new, at_less}
 use Rattle.psac_slots.proofs.Removed.{member_times, removed_gone, removed_else, removed_length, at_most_once}
 use Rattle.psac_slots.proofs.Keeps.{apart_same, none_beside, idle}
@@ -56,6 +56,26 @@ whole_taken (suc c) (x ∷ l) p = ap suc (whole_taken c l p)
 module _ (count c head : ℕ) (list : List Handle) (words : List ℕ) (views : List ClaimView) (h : Claimed count c head list words views) (id : ℕ) (v : ClaimView) (at : get_elem? views id ≡ some v) (live : v.live ≡ true) (empty : v.branch ≡ []) where
   pub alone : (j : ℕ) (u : ClaimView) → j ≢ id → get_elem? views j ≡ some u → u.live ≡ false
   alone j u n e = none_beside views id j v u h.weights at e n live empty
+
+  -- what all passes have in some way is what the sole one has
+  pub alone_sum : (f : ClaimView → ℕ) → f spent ≡ 0 → ((u : ClaimView) → u.drawn ≡ [] → u.held ≡ [] → f u ≡ 0) → sum_by f views ≡ f v
+  alone_sum f none gone =
+      let a = sum_set f views id v spent at in
+      let b = sum_none f (set views id spent) (all_set (λ _ (u : ClaimView). f u ≡ 0) views id spent none (λ j u n e. let g = (h.each j u e).gone (alone j u n e) in gone u g.0 g.1)) in
+      omega (arith, a, b, none)
+
+  pub drawn_all : DrewBelow c v
+  drawn_all k = let a = alone_sum (λ (u : ClaimView). times k u.drawn) refl (λ u d _. ap (times k) d) in let b = h.drawn k in omega (arith, a, b)
+
+  pub accounted : v.counter ≡ Some c → Accounted (rewound v)
+  accounted knows =
+      let f = h.each id v at in
+      let list_is : (rewound v).list ≡ drop c list = λ i. drop (ap counted knows i) (f.list_is live i) in
+      let count_is = f.count_is live in
+      record {
+        all = let a = alone_sum (λ (u : ClaimView). length u.held) refl (λ u _ d. ap length d) in let b = h.all in let n = ap length list_is in omega (arith, a, b, n, count_is);
+        slots = λ s. let a = alone_sum (λ (u : ClaimView). slot_times s u.held) refl (λ u _ d. ap (slot_times s) d) in let b = h.slots s in let n = ap (slot_times s) list_is in let m = ap (once_below s) count_is in omega (arith, a, b, n, m);
+      }
 
   pub learns_at : Claimed count c head list words (set views id (learned c v))
   learns_at =

@@ -87,6 +87,10 @@ Claims v h w = (n : ℕ) × (n < length v.list) × (w ≡ drew v n) × (entry v.
 abbrev pub IsSole : ClaimView → Type 0
 IsSole v = (c : ℕ) × (v.counter ≡ Some c)
 
+-- the pass drew the indexes below n, each once, and no other
+abbrev pub DrewBelow : ℕ → ClaimView → Type 0
+DrewBelow n v = (k : ℕ) → times k v.drawn ≡ once_below k n
+
 abbrev pub learned : ℕ → ClaimView → ClaimView
 learned n v = record v { counter = Some n }
 
@@ -107,6 +111,11 @@ rewound v = record v {
   over = 0;
   counter = Some 0;
 }
+
+-- each slot of the table is free or held, and none is both, or stands twice
+pub record Accounted (v : ClaimView) : Type 0 where
+  pub all : length v.list + length v.held ≡ v.count
+  pub slots : (s : ℕ) → slot_times s v.list + slot_times s v.held ≡ once_below s v.count
 
 -- the slot of the handle is free again, with the handle's generation, behind all others
 abbrev pub returned : Handle → ClaimView → ClaimView

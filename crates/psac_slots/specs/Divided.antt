@@ -79,5 +79,12 @@ module _ {W E : Type 0} (k : Ways W E) where
     shared = filter (above (stem r.branch)) r.shared;
   }
 
+  -- of two passes that are joined: what one of them has alone the other lacks, and what the right one shares the left one shares
+  pub record Met (lefts rights : List W) (left_told right_told : List E) : Type 0 where
+    pub alone : (w x : W) → Member w lefts → Member x rights → k.slot w ≢ k.slot x
+    pub left : (w : W) (e : E) → Member w lefts → Member e right_told → k.of e ≢ k.slot w
+    pub right : (w : W) (e : E) → Member w rights → Member e left_told → k.of e ≢ k.slot w
+    pub same : (e : E) → Member e right_told → Member e left_told
+
 abbrev pub no_rights : {W E : Type 0} → Rights W E
 no_rights = record { live = false; branch = []; alone = []; shared = [] }

@@ -4,7 +4,7 @@ use mathlib.Core.Option.{some}
 use lib.ListN.{get_elem?}
 use Rattle.psac_slots.specs.declared.view.ClaimView.{ClaimView}
 use Rattle.psac_ops.specs.declared.plain.Handle.{Handle}
-use Rattle.psac_slots.specs.Handles.{slot_times}
+use Rattle.psac_slots.specs.Handles.{slot_times, IsDistinct}
 use Rattle.psac_slots.specs.Claiming.{times, Apart}
 
 pub record Promised (words : List ℕ) (views : List ClaimView) : Type 0 where
@@ -21,5 +21,7 @@ pub record Promised (words : List ℕ) (views : List ClaimView) : Type 0 where
   pub drawn_below : (k : ℕ) → counter ≤ k → sum_by (λ (v : ClaimView). times k v.drawn) views ≡ 0
   -- no slot is held by two passes
   pub one_holder : (i j : ℕ) (v w : ClaimView) (s : ℕ) → get_elem? views i ≡ some v → get_elem? views j ≡ some w → i ≢ j → slot_times s v.held + slot_times s w.held ≤ 1
+  -- no slot is still to be drawn twice
+  pub free_once : IsDistinct (drop counter list)
   -- a slot that is still to be drawn is held by none
   pub free_unheld : (i : ℕ) (v : ClaimView) (s : ℕ) → get_elem? views i ≡ some v → 0 < slot_times s (drop counter list) → slot_times s v.held ≡ 0

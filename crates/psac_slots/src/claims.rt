@@ -3,7 +3,7 @@ ghost use Rattle.std.specs.Prelude.{◌≡◌, ℕ, ◌+◌, ◌<◌, ◌≤◌,
 ghost use Rattle.atomic_table.specs.Seated.{TableId};
 ghost use Rattle.psac_slots.specs.Handles.{Member, word_of, slot_times, IsDistinct};
 ghost use Rattle.psac_slots.specs.Passes.{Pass};
-ghost use Rattle.psac_slots.specs.Claiming.{first_view, drew, left_of, right_of, joined, Claims as Claimed, IsSole, learned, turned, rewound, gave};
+ghost use Rattle.psac_slots.specs.Claiming.{first_view, drew, left_of, right_of, joined, Claims as Claimed, IsSole, Accounted, DrewBelow, learned, turned, rewound, gave};
 ghost use Rattle.psac_ops.specs.declared.plain.Handle.{Handle};
 
 use crate::full::Full;
@@ -185,12 +185,12 @@ impl Claims {
         }
     }
 
-    /// The pass, whose forks were all joined again, is sole: it knows the counter.
+    /// The pass, whose forks were all joined again, is sole: it knows the counter, and drew each index below it once.
     pub fn regain(&self, pass: ClaimPass) -> ClaimPass
         requires table { pass.table ≡ self.now }
         requires joined { pass.knows.branch ≡ [] }
         ensures table { result.table ≡ pass.table }
-        ensures counter { (n : ℕ) × (result.knows ≡ learned n pass.knows) }
+        ensures counter { (n : ℕ) × (result.knows ≡ learned n pass.knows) × DrewBelow n pass.knows }
     {
         let ClaimPass {
             mut seat,
@@ -207,13 +207,14 @@ impl Claims {
         }
     }
 
-    /// The counter is 0 again, and the free list is what was left of it, in its order.
+    /// The counter is 0 again, and the free list is what was left of it, in its order. Each slot is in the list or
+    /// held, and in one of them.
     pub fn rewind(&self, pass: &mut ClaimPass)
         requires table { pass.old.table ≡ self.now }
         requires sole { IsSole pass.old.knows }
         ensures table { pass.new.table ≡ pass.old.table }
         ensures rewound { pass.new.knows ≡ rewound pass.old.knows }
-        ensures room { length pass.new.knows.list + length pass.new.knows.held ≤ pass.new.knows.count }
+        ensures whole { Accounted pass.new.knows }
     {
         let counter = self.table.shared.load::<Loads>(&mut pass.seat, 0);
         self.table.shared.store::<Rewinds>(&mut pass.seat, 0, 0);
@@ -230,6 +231,7 @@ impl Claims {
         requires next { handle.generation < 4294967295 }
         ensures table { pass.new.table ≡ pass.old.table }
         ensures gave { pass.new.knows ≡ gave handle (rewound pass.old.knows) }
+        ensures whole { Accounted pass.new.knows }
     {
         self.rewind(pass);
         let place = (u64::from(pass.head) + u64::from(pass.room)) % u64::from(pass.count);

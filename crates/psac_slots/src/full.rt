@@ -7,4 +7,5 @@ pub struct Full {
     pub index: u64,
     /// The length of the free list since it last began anew.
     pub room: u64,
+    ghost past: { room ≤ index },
 }
