@@ -1,10 +1,15 @@
 //! What a pass of all tables does.
-ghost use Rattle.std.specs.Prelude.{◌≡◌, ℕ, ◌+◌, ◌<◌, List, [], ◌∷◌, ◌++◌, length, true, false, Bool, IfOk};
+ghost use Rattle.std.specs.Prelude.{◌≡◌, ℕ, ◌+◌, ◌<◌, ◌≤◌, List, [], ◌∷◌, ◌++◌, length, true, false, Bool, IfOk, sum_by};
 ghost use Rattle.psac_values.specs.Steps as values;
 ghost use Rattle.psac_values.specs.Knowing.{United};
 ghost use Rattle.psac_readers.specs.Steps as readers;
+ghost use Rattle.psac_marks.specs.declared.view.SharedView.{SharedView};
+ghost use Rattle.psac_marks.specs.Marked.{HasOwn};
 ghost use Rattle.psac_marks.specs.Steps as marks;
-ghost use Rattle.psac_marks.specs.Passes.{Parted};
+ghost use Rattle.psac_slots.specs.Handles.{Member};
+ghost use Rattle.psac_slots.specs.Claiming.{DrewBelow};
+ghost use Rattle.psac_readers.specs.Chained.{named};
+ghost use Rattle.psac_marks.specs.Passes as passes;
 ghost use Rattle.psac_fork.specs.Whole.{IsOf, HasRoom, AreSides};
 
 use crate::tables::{Pass, PassSplit, Tables};
@@ -46,12 +51,13 @@ impl Tables {
 }
 
 impl Pass {
-    /// The pass's rights in each table are divided as D says.
+    /// The pass's rights in each table are divided as D says. Of nodes what is dropped on a side is that side's own, and
+    /// nothing shared is.
     pub fn fork<D: PassSplit>(self, tables: &Tables) -> (Pass, Pass)
         requires of { IsOf self tables.now }
         requires short { self.depth < 62 }
         requires room { HasRoom self }
-        requires parted { Parted D.node_shared D.node_right self.marks.knows }
+        requires parted { passes.Parted D.node_shared D.node_right self.marks.knows }
         ensures of { IsOf result.0 tables.now × IsOf result.1 tables.now }
         ensures left_values { result.0.values.knows ≡ values.left_of D.shared D.to_right self.values.knows }
         ensures right_values { result.1.values.knows ≡ values.right_of D.shared D.to_right self.values.knows }
@@ -59,6 +65,10 @@ impl Pass {
         ensures right_readers { result.1.readers.knows ≡ readers.right_of D.set_shared D.set_right D.link_right self.readers.knows }
         ensures left_marks { result.0.marks.knows ≡ marks.left_of D.node_shared D.node_right self.marks.knows }
         ensures right_marks { result.1.marks.knows ≡ marks.right_of D.node_shared D.node_right self.marks.knows }
+        ensures left_dropped { (x : ℕ) → passes.IsDropped result.0.marks.knows x → HasOwn result.0.marks.knows.own x }
+        ensures right_dropped { (x : ℕ) → passes.IsDropped result.1.marks.knows x → HasOwn result.1.marks.knows.own x }
+        ensures left_kept { (e : SharedView) → Member e result.0.marks.knows.shared → passes.IsKept result.0.marks.knows e.node.slot }
+        ensures right_kept { (e : SharedView) → Member e result.1.marks.knows.shared → passes.IsKept result.1.marks.knows e.node.slot }
     {
         let Pass {
             values,
@@ -85,7 +95,8 @@ impl Pass {
         )
     }
 
-    /// What both sides had. What they shared from their branch on is the pass's alone again.
+    /// What both sides had; what one of them had alone the other didn't know. What they shared from their branch on is the
+    /// pass's alone again. Of nodes what is dropped is own, and nothing shared is.
     pub fn join(left: Pass, right: Pass, tables: &Tables) -> Pass
         requires of { IsOf left tables.now × IsOf right tables.now }
         requires sides { (b : List Bool) × AreSides b left right }
@@ -93,7 +104,12 @@ impl Pass {
         ensures values { result.values.knows ≡ values.joined left.values.knows right.values.knows }
         ensures united { United left.values.knows right.values.knows result.values.knows }
         ensures readers { result.readers.knows ≡ readers.joined left.readers.knows right.readers.knows }
+        ensures once { (l : ℕ) → sum_by (named l) result.readers.knows.links ≤ 1 }
         ensures marks { result.marks.knows ≡ marks.joined left.marks.knows right.marks.knows }
+        ensures united_marks { passes.United left.marks.knows right.marks.knows result.marks.knows }
+        ensures closed { marks.IsClosed result.marks.knows }
+        ensures dropped { (x : ℕ) → passes.IsDropped result.marks.knows x → HasOwn result.marks.knows.own x }
+        ensures kept { (e : SharedView) → Member e result.marks.knows.shared → passes.IsKept result.marks.knows e.node.slot }
     {
         let Pass {
             values,
@@ -115,14 +131,15 @@ impl Pass {
         }
     }
 
-    /// The pass, whose forks were all joined again, is sole: it knows the counters, and shares nothing.
+    /// The pass, whose forks were all joined again, is sole: it knows the counters, drew each index below them once, and
+    /// shares nothing.
     pub fn regain(self, tables: &Tables) -> Pass
         requires of { IsOf self tables.now }
         requires joined { self.depth ≡ 0 }
         ensures of { IsOf result tables.now }
-        ensures values { (n : ℕ) × (result.values.knows ≡ values.learned n self.values.knows) }
-        ensures readers { (n : ℕ) × (result.readers.knows ≡ readers.regained n self.readers.knows) }
-        ensures marks { (n : ℕ) × (result.marks.knows ≡ marks.regained n self.marks.knows) }
+        ensures values { (n : ℕ) × (result.values.knows ≡ values.learned n self.values.knows) × DrewBelow n self.values.knows.claims }
+        ensures readers { (n : ℕ) × (result.readers.knows ≡ readers.regained n self.readers.knows) × DrewBelow n self.readers.knows.claims }
+        ensures marks { (n : ℕ) × (result.marks.knows ≡ marks.regained n self.marks.knows) × DrewBelow n self.marks.knows.claims }
         ensures alone { (result.values.knows.known ≡ []) × (result.readers.knows.shared ≡ []) × (result.marks.knows.shared ≡ []) }
     {
         let Pass {

@@ -16,9 +16,9 @@ use Rattle.psac_slots.proofs.Sums.{sum_at}
 use Rattle.psac_marks.specs.declared.view.StateView.{StateView}
 use Rattle.psac_marks.specs.declared.view.MarksView.{MarksView}
 use Rattle.psac_marks.specs.Marked.{mark_at, parent_at, state_at, parent_word, Place, places, claims_of, tree_of, Raising, marks_of, states_of, Has, HasOwn, marks, Marked}
-use Rattle.psac_marks.specs.Steps.{drew, Drew, Lacks, Tells, Loaded, hung, Hung, stated, Stated, raised, Raised, cleared, Cleared, asked, Asked, detached, Detached}
+use Rattle.psac_marks.specs.Steps.{drew, Drew, Lacks, Tells, Loaded, Settled, hung, Hung, stated, Stated, raised, Raised, cleared, Cleared, asked, Asked, detached, Detached}
 use Rattle.psac_marks.specs.Passes.{MayRaise}
-use Rattle.psac_marks.proofs.Keeps.{entry_at, later_member, undrawn, held_low, place_low, lacks, unmarked, undropped, one_parent, count_is, own_alone, own_mark, draws_at, raises_first, raises_second, clears_at, counts_at, detaches_at, states_at, hangs_at}
+use Rattle.psac_marks.proofs.Keeps.{entry_at, later_member, undrawn, held_low, place_low, lacks, unmarked, undropped, drops_own, shared_kept, one_parent, count_is, own_alone, own_mark, draws_at, raises_first, raises_second, clears_at, counts_at, detaches_at, states_at, hangs_at}
 use Rattle.psac_marks.proofs.Holding.{holds_at}
 use Rattle.psac_marks.proofs.Families.{closed_at}
 use Rattle.psac_marks.proofs.Alone.{all_held, free_state}
@@ -70,7 +70,7 @@ module _ (nodes slots_ id : ℕ) (v : MarksView) (hs : List (ℕ × Unit {0})) (
         entry = old.entry;
         counter = old.counter;
         once = old.once;
-        room = old.room;
+        whole = old.whole;
         held_is = h.states.held_is id (states_of v) (at_map states_of s.views id v at);
         low = λ e m. let a = low e m in omega (arith, a, c);
         parent = λ e m is. word (parent_at nodes e.node.slot) (parent_word e.parent) (is ∙ ap (λ k. parent_at k e.node.slot) c)
@@ -84,6 +84,8 @@ module _ (nodes slots_ id : ℕ) (v : MarksView) (hs : List (ℕ × Unit {0})) (
             (q.0, word (state_at nodes x) (2 * q.0) (is ∙ ap (λ m. state_at m x) c) q.1, lacks nodes s.words s.views h x (all_held nodes s.words s.views h id v at live p.2 x ∙ none) id v at);
         holds = λ k knows. holds_at nodes s.words s.views h id v at k knows;
         closed = closed_at nodes s.words s.views h id v at live;
+        dropped = drops_own nodes s.words s.views h id v at;
+        kept = shared_kept nodes s.words s.views h id v at;
       }
 
   pub loads : (i : ℕ) → Allows (λ (s : State (Unit {0}) MarksView). Marked nodes s.words s.views) slots_ id (v, hs) i (λ n. n) (Loaded (step slots_ i 0 0 vacant) (v, hs))
@@ -94,6 +96,16 @@ module _ (nodes slots_ id : ℕ) (v : MarksView) (hs : List (ℕ × Unit {0})) (
     same_words nodes s.words (set s.views id v) i (subst (λ (us : List MarksView). Marked nodes s.words us) (sym (set_again s.views id v at)) h),
     record { same = refl; tells = tells i s h at fits },
   )
+
+  pub settles : (i : ℕ) → Allows (λ (s : State (Unit {0}) MarksView). Marked nodes s.words s.views) slots_ id (v, hs) i (λ n. n) (Settled (step slots_ i 0 0 vacant) (v, hs))
+  settles i s h sized at fits =
+      let w : MarksView = record v { met = None } in (
+        w,
+        keeps,
+        tt,
+        same_words nodes s.words (set s.views id w) i (counts_at nodes s.words s.views h id v at w refl refl refl refl refl tt),
+        record { settled = refl; meeting = h.met id v at; tells = tells i s h at fits },
+      )
 
   pub hangs : (x : ℕ) (par : Option ℕ) (i n : ℕ) → HasOwn v.own x → ((p : ℕ) → par ≡ Some p → Has (places v) p × (times x v.marked ≡ 0)) → i ≡ parent_at v.claims.count x → n ≡ parent_word par
       → Allows (λ (s : State (Unit {0}) MarksView). Marked nodes s.words s.views) slots_ id (v, hs) i (λ _. n) (λ _. Hung (step slots_ i n 0 vacant) (v, hs) n)
@@ -174,7 +186,7 @@ module _ (nodes slots_ id : ℕ) (v : MarksView) (hs : List (ℕ × Unit {0})) (
         asked v,
         keeps,
         tt,
-        same_words nodes s.words (set s.views id (asked v)) i (counts_at nodes s.words s.views h id v at (asked v) refl refl refl refl refl),
+        same_words nodes s.words (set s.views id (asked v)) i (counts_at nodes s.words s.views h id v at (asked v) refl refl refl refl refl (h.met id v at)),
         record {
           counted = refl;
           closed = closed_at nodes s.words s.views h id v at live;

@@ -1,5 +1,5 @@
 -- What a sole pass knows of the table.
-use Rattle.std.proofs.Common.{◌≡◌, ◌≢◌, ℕ, zero, suc, ◌*◌, ◌<◌, ◌≤◌, List, [], ◌∷◌, map, length, set, drop, true, false, true≢false, refl, sym, ap, ◌∙◌, subst, inl, ⊎_elim, arith}
+use Rattle.std.proofs.Common.{◌≡◌, ◌≢◌, ℕ, zero, suc, ◌*◌, ◌<◌, ◌≤◌, List, [], ◌∷◌, map, length, drop, true, false, true≢false, refl, sym, ap, ◌∙◌, subst, inl, ⊎_elim, arith}
 use Rattle.std.proofs.lemmas.Bool.{lt-ltb, cases_eq}
 use mathlib.Core.Option.{some, some-injective}
 use lib.ListN.{get_elem?}
@@ -7,9 +7,8 @@ use Rattle.atomic_table.proofs.Lists.{at_map}
 use Rattle.psac_ops.specs.declared.plain.Handle.{Handle}
 use Rattle.psac_slots.specs.Handles.{Member, slot_times, once_below}
 use Rattle.psac_slots.specs.declared.view.ClaimView.{ClaimView}
-use Rattle.psac_slots.specs.Claiming as claiming
 use Rattle.psac_slots.proofs.Rewinds as turns
-use Rattle.psac_slots.proofs.Sums.{bit, sum_set, sum_none, all_set}
+use Rattle.psac_slots.proofs.Sums.{bit}
 use Rattle.psac_slots.proofs.Removed.{found}
 use Rattle.psac_marks.specs.declared.view.OwnView.{OwnView}
 use Rattle.psac_marks.specs.declared.view.SharedView.{SharedView}
@@ -55,14 +54,9 @@ module _ (nodes : ℕ) (words : List ℕ) (views : List MarksView) (h : Marked n
     -- what a sole pass holds is all that is held
     pub all_held : (x : ℕ) → held_times x (map tree_of views) ≡ slot_times x v.claims.held
     all_held x =
-        let f : ClaimView → ℕ = λ (u : ClaimView). slot_times x u.held in
-        let l = map claims_of views in
-        let mine = at_map claims_of views id v at in
-        let a = sum_set f l id v.claims claiming.spent mine in
-        let z = sum_none f (set l id claiming.spent) (all_set (λ _ (u : ClaimView). f u ≡ 0) l id claiming.spent refl
-        (λ j u n e. ap (slot_times x) ((h.claims.each j u e).gone (turns.alone nodes h.counter h.head h.list words l h.claims id v.claims mine live empty j u n e)).1)) in
+        let a = turns.alone_sum nodes h.counter h.head h.list words (map claims_of views) h.claims id v.claims (at_map claims_of views id v at) live empty (λ (u : ClaimView). slot_times x u.held) refl (λ u _ d. ap (slot_times x) d) in
         let e = held_is nodes words views h x in
-        omega (arith, a, z, e)
+        omega (arith, a, e)
 
     -- a sole pass holds what it has
     pub holds_own : (e : Place) → Member e (places v) → Member e.node v.claims.held

@@ -1,5 +1,5 @@
 -- A climb, node by node.
-use Rattle.std.proofs.Common.{◌≡◌, ◌≢◌, ◌⊎◌, ℕ, zero, suc, ◌-◌, ◌<◌, ◌≤◌, List, [], ◌∷◌, ◌++◌, refl, sym, ap, ◌∙◌, subst, inl, inr, ⊎_elim, arith, Option, Some, None, cond, append_assoc, append-nil}
+use Rattle.std.proofs.Common.{◌≡◌, ◌≢◌, ◌⊎◌, ℕ, zero, suc, ◌-◌, ◌<◌, ◌≤◌, List, [], ◌∷◌, ◌++◌, length, refl, sym, ap, ◌∙◌, subst, inl, inr, ⊎_elim, arith, Option, Some, None, cond, append_assoc, append-nil, length-append}
 use Rattle.psac_slots.specs.Handles.{Member}
 use Rattle.psac_slots.specs.Claiming.{times}
 use Rattle.psac_marks.specs.declared.view.MarksView.{MarksView}
@@ -51,6 +51,15 @@ climbs_some y z (Some p) e = refl
 climbs_none : (y : ℕ) (par : Option ℕ) → None ≡ par → climbs_from y par ≡ None
 climbs_none y None e = refl
 climbs_none y (Some p) e = absurd (none_some p e)
+
+-- the parent of a place from which a climb goes on, and of one at which it ends with a new mark
+goes_on_to : (w w' : MarksView) (z : ℕ) (o : Place) → RaisedOne w o (Some z) w' → o.parent ≡ Some z
+goes_on_to w w' z o (inl r) = absurd (none_some z (sym r.0))
+goes_on_to w w' z o (inr r) = sym r.0
+
+ends_at : (w w' : MarksView) (x : ℕ) (par : Option ℕ) (o : Place) → w' ≡ raised x par 0 w → RaisedOne w o None w' → o.parent ≡ None
+ends_at w w' x par o new (inl r) = let a = ap (λ (u : MarksView). length u.marked) r.1 in let b = ap (λ (u : MarksView). length u.marked) new in let l = length-append w.marked (x ∷ []) in absurd (omega (arith, a, b, l))
+ends_at w w' x par o new (inr r) = sym r.0
 
 still_one : (a b : ℕ) → a ≤ b → cond (b == 0) 1 0 ≤ cond (a == 0) 1 0
 still_one a b l = ⊎_elim
@@ -128,14 +137,19 @@ module _ (v : MarksView) (x : ℕ) (w : MarksView) (y : ℕ) (m : Midway v x w y
           is ∙ ((λ i. raised e.node.slot e.parent 0 (m.view i)) ∙ (λ i. record v { marked = long i; climb = ap (λ (u : MarksView). u.climb) (sym is) i })),
         )
 
-    pub goes_up : (z : ℕ) → RaisedOne w stands.0 (Some z) w' → Midway v x w' z × (unmarked w'.marked (places w') < unmarked w.marked (places w))
-    goes_up z (inl r) = absurd (none_some z (sym r.0))
-    goes_up z (inr r) =
+    -- each place of the node was raised in one way
+    abbrev pub each_raised : Option ℕ → Type 0
+    each_raised next = (o : Place) → Member o (places w) → o.node.slot ≡ y → RaisedOne w o next w'
+
+    goes_by : (z : ℕ) → each_raised (Some z) → RaisedOne w stands.0 (Some z) w' → Midway v x w' z × (unmarked w'.marked (places w') < unmarked w.marked (places w))
+    goes_by z each (inl r) = absurd (none_some z (sym r.0))
+    goes_by z each (inr r) =
         let e = stands.0 in
         let es = stands.1 in
         let slot = stands.3 in
         let grown = more e slot r.2 in
         let parent : e.parent ≡ Some z = sym r.0 in
+        let parents : (o : Place) → Member o (places v) → o.node.slot ≡ y → o.parent ≡ Some z = λ o has s. goes_on_to w w' z o (each o (subst (λ (u : MarksView). Member o (places u)) (sym m.view) has) s) in
         let calm : IsBusy v y → ⊥ = λ b. r.1 (subst (IsBusy w) (sym slot) (still_busy b)) in
         let has_v : Member e (places v) = subst (λ (u : MarksView). Member e (places u)) m.view stands.4 in
         let leads : Leads v z es = ⊎_elim
@@ -150,13 +164,16 @@ module _ (v : MarksView) (x : ℕ) (w : MarksView) (y : ℕ) (m : Midway v x w y
             view = grown.1;
             leads = leads;
             may = λ k climb. (e, subst (λ (u : MarksView). Member e (places u)) (sym grown.1) has_v, slot ∙ some_same y k (sym (ap (λ (u : MarksView). u.climb) r.2 ∙ (climbs_some e.node.slot z e.parent r.0 ∙ ap Some slot)) ∙ climb), parent);
-            goes_on = λ ys end up. subst (λ l. Rises v x l end) (sym (append_assoc m.done (y ∷ []) ys)) (m.goes_on (y ∷ ys) end (refl, calm, (e, has_v, slot, inr (z, parent, up))));
+            goes_on = λ ys end up. subst (λ l. Rises v x l end) (sym (append_assoc m.done (y ∷ []) ys)) (m.goes_on (y ∷ ys) end (refl, calm, (e, has_v, slot), λ o has s. inr (z, parents o has s, up)));
           },
           subst (λ (u : MarksView). unmarked u.marked (places u) < unmarked w.marked (places w)) (sym r.2) (unmarked_less e w.marked (places w) stands.4 none),
         )
 
-    pub ends : v.climb ≡ None → RaisedOne w stands.0 None w' → (xs : List ℕ) × (end : Option ℕ) × Rises v x xs end × (w' ≡ climbed xs end v)
-    ends idle (inl r) =
+    pub goes_up : (z : ℕ) → each_raised (Some z) → Midway v x w' z × (unmarked w'.marked (places w') < unmarked w.marked (places w))
+    goes_up z each = goes_by z each (each stands.0 stands.4 stands.3)
+
+    ends_by : v.climb ≡ None → each_raised None → RaisedOne w stands.0 None w' → (xs : List ℕ) × (end : Option ℕ) × Rises v x xs end × (w' ≡ climbed xs end v)
+    ends_by idle each (inl r) =
         let e = stands.0 in
         let slot = stands.3 in (
           m.done ++ [],
@@ -164,7 +181,7 @@ module _ (v : MarksView) (x : ℕ) (w : MarksView) (y : ℕ) (m : Midway v x w y
           m.goes_on [] (Some y) refl,
           r.1 ∙ ((λ i. raised e.node.slot e.parent 1 (m.view i)) ∙ (λ i. record v { marked = v.marked ++ sym (append-nil m.done) i; busy = v.busy ++ slot i ∷ []; climb = sym idle i })),
         )
-    ends idle (inr r) =
+    ends_by idle each (inr r) =
         let e = stands.0 in
         let slot = stands.3 in
         let grown = more e slot r.2 in
@@ -173,9 +190,12 @@ module _ (v : MarksView) (x : ℕ) (w : MarksView) (y : ℕ) (m : Midway v x w y
         let still : w'.climb ≡ v.climb = ap (λ (u : MarksView). u.climb) r.2 ∙ (climbs_none e.node.slot e.parent r.0 ∙ sym idle) in (
           m.done ++ y ∷ [],
           None,
-          m.goes_on (y ∷ []) None (refl, calm, (e, has_v, slot, inl (sym r.0, refl, refl))),
+          m.goes_on (y ∷ []) None (refl, calm, (e, has_v, slot), λ o has s. inl (ends_at w w' e.node.slot e.parent o r.2 (each o (subst (λ (u : MarksView). Member o (places u)) (sym m.view) has) s), refl, refl)),
           grown.1 ∙ (λ i. record v { marked = v.marked ++ (m.done ++ y ∷ []); busy = sym (append-nil v.busy) i; climb = still i }),
         )
+
+    pub ends : v.climb ≡ None → each_raised None → (xs : List ℕ) × (end : Option ℕ) × Rises v x xs end × (w' ≡ climbed xs end v)
+    ends idle each = ends_by idle each (each stands.0 stands.4 stands.3)
 
 -- a climb marks the node from which it sets out
 pub rises_busy : (v : MarksView) (x : ℕ) (xs : List ℕ) (end : Option ℕ) → Rises v x xs end → IsBusy (climbed xs end v) x

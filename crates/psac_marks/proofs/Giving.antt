@@ -28,7 +28,7 @@ use Rattle.psac_marks.proofs.Parts.{new_part, here, times_gone, times_else, plac
 use Rattle.psac_marks.proofs.Trees.{tree_else}
 use Rattle.psac_marks.proofs.Climbs.{climbs_else, support_stays}
 use Rattle.psac_marks.proofs.Stays.{states_else}
-use Rattle.psac_marks.proofs.Keeps.{held_low, at_mapped}
+use Rattle.psac_marks.proofs.Keeps.{met_after, held_low, at_mapped}
 use Rattle.psac_marks.proofs.Alone.{nobody_else, nothing_shared, all_held}
 use Rattle.psac_marks.proofs.Holding.{held_once}
 
@@ -239,6 +239,7 @@ module _ (nodes : ℕ) (words : List ℕ) (views : List MarksView) (h : Marked n
         states = new_part states_of (AreStated nodes h.counter (h.list ++ later g ∷ []) ws) views id w
             (states_gives nodes h.counter h.list ws (map states_of views) (states_else nodes h.counter h.list words (map states_of views) i n (λ y q. omega (arith, q, short)) h.states) id (states_of v) (at_map states_of views id v at)
             (later g) go.state go.known (ap (λ (z : Handle). z.slot) go.of) go.word);
+        met = met_after nodes words views h id v at w (h.met id v at);
       }
 
 last_all : (l : List Handle) (x : Handle) → All IsHandle (l ++ x ∷ []) → IsHandle x

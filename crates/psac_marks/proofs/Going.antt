@@ -1,12 +1,14 @@
 -- What the four stores of a node's going make of a view.
-use Rattle.std.proofs.Common.{◌≡◌, ◌≢◌, ℕ, suc, ◌+◌, ◌*◌, ◌/◌, ◌%◌, ◌<◌, ◌≤◌, List, [], ◌∷◌, map, length, Bool, true, false, cond, refl, sym, ap, ◌∙◌, subst, ⊎_elim, arith, Option, Some, None, length-append}
+use Rattle.std.proofs.Common.{◌≡◌, ◌≢◌, ℕ, suc, ◌+◌, ◌*◌, ◌/◌, ◌%◌, ◌<◌, ◌≤◌, List, [], ◌∷◌, map, Bool, true, false, cond, refl, sym, ap, ◌∙◌, subst, ⊎_elim, arith, Option, Some, None, length-append}
 use Rattle.std.specs.Prelude.{filter, not, ◌==◌}
 use Rattle.std.proofs.lemmas.Bool.{eq-eqb, ne_eqb, cases_eq, cases_lt}
 use Rattle.psac_ops.specs.declared.plain.Handle.{Handle}
 use Rattle.psac_slots.specs.Handles.{Member, later, removed, slot_times}
-use Rattle.psac_slots.specs.Claiming.{times}
+use Rattle.psac_slots.specs.Claiming.{times, Accounted}
+use Rattle.psac_slots.proofs.Carrying as ring
+use Rattle.psac_slots.proofs.Carrying.{accounted_returned}
 use Rattle.psac_slots.proofs.Pairs.{member_map, map_member, member_filter}
-use Rattle.psac_slots.proofs.Removed.{member_times, removed_length, found}
+use Rattle.psac_slots.proofs.Removed.{member_times, found}
 use Rattle.psac_marks.specs.declared.view.OwnView.{OwnView}
 use Rattle.psac_marks.specs.declared.view.SharedView.{SharedView}
 use Rattle.psac_marks.specs.declared.view.StateView.{StateView}
@@ -76,17 +78,13 @@ put_others x n (t ∷ ts) = put_one x n t (filter (other_state x) (map (put x n)
 pub released_is : (g : Handle) (v : MarksView) → gave g (leaving g v) ≡ released g v
 released_is g v = λ i. record (released g v) { own = hung_others g.slot None v.own i; states = put_others g.slot (free_word (later g)) v.states i }
 
-module _ (nodes head room words : ℕ) (v : MarksView) (p : Carries nodes head room words v) (g : Handle) (m : Member g v.claims.held) (fit : length v.claims.list + length v.claims.held ≤ v.claims.count) where
+pub released_whole : (g : Handle) (v : MarksView) → Member g v.claims.held → Accounted v.claims → Accounted (released g v).claims
+released_whole g v m a = accounted_returned v.claims a (later g) (member_times g v.claims.held m)
+
+module _ (nodes head room words : ℕ) (v : MarksView) (p : Carries nodes head room words v) (g : Handle) (m : Member g v.claims.held) (fit : Accounted v.claims) where
   -- what is out has room in the ring
   pub has_room : room < nodes
-  has_room = let a = member_times g v.claims.held m in let b = removed_length g.slot v.claims.held in let c = p.room_is in let d = p.nodes_is in omega (arith, a, b, c, d, fit)
-
-  pub released_room : length (released g v).claims.list + length (released g v).claims.held ≤ (released g v).claims.count
-  released_room =
-      let a = length-append v.claims.list (later g ∷ []) in
-      let b = member_times g v.claims.held m in
-      let c = removed_length g.slot v.claims.held in
-      omega (arith, a, b, c, fit)
+  has_room = let a = ring.has_room v.claims fit g (member_times g v.claims.held m) in let c = p.room_is in let d = p.nodes_is in omega (arith, a, c, d)
 
   pub carries_released : Carries nodes head (room + 1) words (released g v)
   carries_released = record {

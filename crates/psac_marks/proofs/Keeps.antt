@@ -1,6 +1,6 @@
 -- Each step of one pass keeps the rule of marks.
 use Rattle.std.proofs.Common.{◌≡◌, ◌≢◌, ◌⊎◌, ℕ, zero, suc, ◌+◌, ◌*◌, ◌%◌, ◌^◌, ◌<◌, ◌≤◌, List, [], ◌∷◌, ◌++◌, map, length, set, take, drop, true, cond, refl, sym, ap, ◌∙◌, subst, inl, inr, ⊎_elim, arith, Option, Some, None, length-set}
-use Rattle.std.specs.Prelude.{◌==◌, sum_by}
+use Rattle.std.specs.Prelude.{◌==◌, sum_by, IfSome}
 use Rattle.std.proofs.lemmas.List.Sums.{sum_by-cons}
 use Rattle.std.proofs.lemmas.Bool.{eq-eqb, ne_eqb, cases_eq, le-ltb, cases_lt}
 use mathlib.Core.Option.{some, some-ne-none, some-injective}
@@ -23,7 +23,7 @@ use Rattle.psac_marks.specs.declared.view.OwnView.{OwnView}
 use Rattle.psac_marks.specs.declared.view.SharedView.{SharedView}
 use Rattle.psac_marks.specs.declared.view.StateView.{StateView}
 use Rattle.psac_marks.specs.declared.view.MarksView.{MarksView}
-use Rattle.psac_marks.specs.Marked.{mark_at, parent_at, state_at, parent_word, Place, own_place, shared_place, places, claims_of, handle_of, ways, rights_of, Grown, tree_of, Raising, marks_of, Stating, states_of, Has, HasOwn, held_times, Tree, marks, Supported, Climbing, AreStated, Marked}
+use Rattle.psac_marks.specs.Marked.{mark_at, parent_at, state_at, parent_word, Place, own_place, shared_place, places, claims_of, handle_of, ways, rights_of, Grown, tree_of, Raising, marks_of, Stating, states_of, Has, HasOwn, held_times, Tree, marks, Supported, Climbing, AreStated, Meeting, Marked}
 use Rattle.psac_marks.specs.Steps.{new_own, drew, Lacks, hang, hung, stated, raised, cleared, detached}
 use Rattle.psac_marks.specs.Passes.{MayRaise}
 use Rattle.psac_marks.proofs.Parts.{same_part, new_part, place_own, place_shared, place_cases}
@@ -107,6 +107,20 @@ module _ (nodes : ℕ) (words : List ℕ) (views : List MarksView) (h : Marked n
 
     at_states : get_elem? (map states_of views) id ≡ some (states_of v)
     at_states = at_map states_of views id v at
+
+    -- what is dropped is own, and nothing shared is dropped
+    pub drops_own : (x : ℕ) → 0 < times x v.dropped → HasOwn v.own x
+    drops_own x p = h.tree.dropped id (tree_of v) x at_tree p
+
+    pub shared_kept : (s : SharedView) → Member s v.shared → times s.node.slot v.dropped ≡ 0
+    shared_kept s m = ⊎_elim
+        (λ z. z)
+        (λ (n : times s.node.slot v.dropped ≢ 0). let o = drops_own s.node.slot (omega (arith, n)) in absurd ((h.rights.own id (rights_of v) at_rights).apart o.0 o.1 s m (sym o.2)))
+        (cases_eq (times s.node.slot v.dropped) 0)
+
+    -- what the sides of a join had
+    pub met_after : (w : MarksView) → IfSome w.met Meeting → (j : ℕ) (u : MarksView) → get_elem? (set views id w) j ≡ some u → IfSome u.met Meeting
+    met_after w mine = all_set (λ _ (u : MarksView). IfSome u.met Meeting) views id w mine (λ j u n e. h.met j u e)
 
     pub count_is : v.claims.live ≡ true → v.claims.count ≡ nodes
     count_is live = (h.claims.each id v.claims at_claims).count_is live
@@ -202,6 +216,7 @@ module _ (nodes : ℕ) (words : List ℕ) (views : List MarksView) (h : Marked n
               (λ e m kept p. ⊎_elim (λ n. inl n.3) (λ o. h.climbs.supported id (marks_of v) e at_marks o kept p) (cases e m))));
           states = new_part states_of (AreStated nodes (suc c) h.list (set words 0 x)) views id w (states_else nodes (suc c) h.list words (set (map states_of views) id (states_of w)) 0 x (λ y q. omega (arith, q))
               (states_draw nodes c h.list words (map states_of views) h.states id (states_of v) at_states es (λ y m. let d = drawn y m in (d.0, d.2))));
+          met = met_after w (h.met id v at);
         }
       where
         one_entry : (l : List Handle) (y z : Handle) → Member y (take 1 l) → Member z (take 1 l) → y ≡ z
@@ -209,9 +224,9 @@ module _ (nodes : ℕ) (words : List ℕ) (views : List MarksView) (h : Marked n
         one_entry (a ∷ l) y z m n = ⊎_elim (λ e. ⊎_elim (λ f. sym e ∙ f) (λ b. absurd b) n) (λ b. absurd b) m
 
     -- what is changed in a view but for its nodes, claims and states, with one word beside the ring
-    quiet : (w : MarksView) → claims_of w ≡ claims_of v → rights_of w ≡ rights_of v → tree_of w ≡ tree_of v → states_of w ≡ states_of v → (i x : ℕ) → nodes < i
+    quiet : (w : MarksView) → claims_of w ≡ claims_of v → rights_of w ≡ rights_of v → tree_of w ≡ tree_of v → states_of w ≡ states_of v → IfSome w.met Meeting → (i x : ℕ) → nodes < i
         → ((y : ℕ) → parent_at nodes y ≢ i) → ((y : ℕ) → state_at nodes y ≢ i) → Climbing nodes (set words i x) (set (map marks_of views) id (marks_of w)) → Marked nodes (set words i x) (set views id w)
-    quiet w ec er et es i x far np ns climbs = record {
+    quiet w ec er et es meets i x far np ns climbs = record {
       counter = h.counter;
       head = h.head;
       list = h.list;
@@ -222,6 +237,7 @@ module _ (nodes : ℕ) (words : List ℕ) (views : List MarksView) (h : Marked n
       tree = same_part tree_of (Tree nodes h.parent (set words i x)) views id v w at et (tree_else nodes h.parent words (map tree_of views) i x np h.tree);
       climbs = new_part marks_of (Climbing nodes (set words i x)) views id w climbs;
       states = same_part states_of (AreStated nodes h.counter h.list (set words i x)) views id v w at es (states_else nodes h.counter h.list words (map states_of views) i x ns h.states);
+      met = met_after w meets;
     }
 
     climb_below : (x : ℕ) → MayRaise v x → (j : ℕ) (r : Raising) (e : Place) → get_elem? (map marks_of views) j ≡ some r → Member e r.places → v.climb ≡ Some e.node.slot → e.parent ≡ Some x
@@ -230,13 +246,13 @@ module _ (nodes : ℕ) (words : List ℕ) (views : List MarksView) (h : Marked n
 
     -- a swap that finds 0, and one that finds 1
     pub raises_first : (e0 : Place) → Member e0 (places v) → MayRaise v e0.node.slot → marks e0.node.slot (map marks_of views) ≡ 0 → Marked nodes (set words (mark_at nodes e0.node.slot) 1) (set views id (raised e0.node.slot e0.parent 0 v))
-    raises_first e0 has may none = quiet (raised e0.node.slot e0.parent 0 v) refl refl refl refl (mark_at nodes e0.node.slot) 1 (omega arith) (λ y q. omega (arith, q)) (λ y q. omega (arith, q))
+    raises_first e0 has may none = quiet (raised e0.node.slot e0.parent 0 v) refl refl refl refl (h.met id v at) (mark_at nodes e0.node.slot) 1 (omega arith) (λ y q. omega (arith, q)) (λ y q. omega (arith, q))
         (first_mark nodes words (map marks_of views) h.climbs id (marks_of v) at_marks e0 has (place_low id v e0 at has) h.long none
         (λ j r e d m is. let u = at_mapped marks_of views j r d in one_parent j id u.0 v e e0 u.1 at (subst (λ (k : Raising). Member e k.places) (sym u.2) m) has is)
         (climb_below e0.node.slot may))
 
     pub raises_second : (e0 : Place) → Member e0 (places v) → MayRaise v e0.node.slot → marks e0.node.slot (map marks_of views) ≡ 1 → Marked nodes (set words (mark_at nodes e0.node.slot) 1) (set views id (raised e0.node.slot e0.parent 1 v))
-    raises_second e0 has may one = quiet (raised e0.node.slot e0.parent 1 v) refl refl refl refl (mark_at nodes e0.node.slot) 1 (omega arith) (λ y q. omega (arith, q)) (λ y q. omega (arith, q))
+    raises_second e0 has may one = quiet (raised e0.node.slot e0.parent 1 v) refl refl refl refl (h.met id v at) (mark_at nodes e0.node.slot) 1 (omega arith) (λ y q. omega (arith, q)) (λ y q. omega (arith, q))
         (second_mark nodes words (map marks_of views) h.climbs id (marks_of v) at_marks e0 has (place_low id v e0 at has) h.long one (climb_below e0.node.slot may))
 
     -- a store of 0 to the mark of a node that no other pass has, and of whose children none is marked but for dropped ones
@@ -244,14 +260,14 @@ module _ (nodes : ℕ) (words : List ℕ) (views : List MarksView) (h : Marked n
         → ((j : ℕ) (u : MarksView) (e : Place) → j ≢ id → get_elem? views j ≡ some u → Member e (places u) → e.node.slot ≢ x)
         → ((j : ℕ) (u : MarksView) (e : Place) → get_elem? views j ≡ some u → Member e (places u) → times e.node.slot u.dropped ≡ 0 → e.parent ≡ Some x → marks e.node.slot (map marks_of views) ≡ 0)
         → Marked nodes (set words (mark_at nodes x) 0) (set views id (cleared x v))
-    clears_at x small alone bare = quiet (cleared x v) refl refl refl refl (mark_at nodes x) 0 (omega arith) (λ y q. omega (arith, q)) (λ y q. omega (arith, q))
+    clears_at x small alone bare = quiet (cleared x v) refl refl refl refl (h.met id v at) (mark_at nodes x) 0 (omega arith) (λ y q. omega (arith, q)) (λ y q. omega (arith, q))
         (climbs_clear nodes words (map marks_of views) h.climbs id (marks_of v) at_marks x small h.long
         (λ j r e n d m. let u = at_mapped marks_of views j r d in alone j u.0 e n u.1 (subst (λ (k : Raising). Member e k.places) (sym u.2) m))
         (λ j r e d m kept is. let u = at_mapped marks_of views j r d in bare j u.0 e u.1 (subst (λ (k : Raising). Member e k.places) (sym u.2) m) (ap (λ (k : Raising). times e.node.slot k.dropped) u.2 ∙ kept) is))
 
     -- a step that only counts
-    pub counts_at : (w : MarksView) → claims_of w ≡ claims_of v → rights_of w ≡ rights_of v → tree_of w ≡ tree_of v → marks_of w ≡ marks_of v → states_of w ≡ states_of v → Marked nodes words (set views id w)
-    counts_at w ec er et em es = record {
+    pub counts_at : (w : MarksView) → claims_of w ≡ claims_of v → rights_of w ≡ rights_of v → tree_of w ≡ tree_of v → marks_of w ≡ marks_of v → states_of w ≡ states_of v → IfSome w.met Meeting → Marked nodes words (set views id w)
+    counts_at w ec er et em es meets = record {
       counter = h.counter;
       head = h.head;
       list = h.list;
@@ -262,6 +278,7 @@ module _ (nodes : ℕ) (words : List ℕ) (views : List MarksView) (h : Marked n
       tree = same_part tree_of (Tree nodes h.parent words) views id v w at et h.tree;
       climbs = same_part marks_of (Climbing nodes words) views id v w at em h.climbs;
       states = same_part states_of (AreStated nodes h.counter h.list words) views id v w at es h.states;
+      met = met_after w meets;
     }
 
     -- a node is dropped
@@ -279,6 +296,7 @@ module _ (nodes : ℕ) (words : List ℕ) (views : List MarksView) (h : Marked n
           climbs = new_part marks_of (Climbing nodes words) views id w (climbs_places nodes words (map marks_of views) h.climbs id (marks_of v) at_marks (places v) (v.dropped ++ x ∷ []) (λ y p. p)
               (λ e m kept p. h.climbs.supported id (marks_of v) e at_marks m (let t = Rattle.psac_marks.proofs.Parts.times_push e.node.slot v.dropped x in omega (arith, t, kept)) p));
           states = same_part states_of (AreStated nodes h.counter h.list words) views id v w at refl h.states;
+          met = met_after w (h.met id v at);
         }
 
     -- who has the state of a slot holds it
@@ -317,6 +335,7 @@ module _ (nodes : ℕ) (words : List ℕ) (views : List MarksView) (h : Marked n
               let one = sum_at (λ (z : ClaimView). slot_times x z.held) (map claims_of views) id v.claims at_claims in
               let s = held_is x in
               omega (arith, none, there, one, mine, s)));
+          met = met_after w (h.met id v at);
         }
 
     -- a place of the node is that of the new view
@@ -408,6 +427,7 @@ module _ (nodes : ℕ) (words : List ℕ) (views : List MarksView) (h : Marked n
               h.climbs.supported id (marks_of v) e at_marks (subst (λ z. Member z (places v)) same d.1) kept p)
               d.4)));
           states = same_part states_of (AreStated nodes h.counter h.list (set words i n)) views id v w at refl (states_else nodes h.counter h.list words (map states_of views) i n (λ y q. omega (arith, q)) h.states);
+          met = met_after w (h.met id v at);
         }
       where
         root : (e : Place) → e.node.slot ≡ x → (par : Option ℕ) → e.parent ≡ par → ((p : ℕ) → par ≡ Some p → times x v.marked ≡ 0) → 0 < marks e.node.slot (map marks_of views) → Supported (map marks_of views) e

@@ -17,7 +17,7 @@ use Rattle.psac_marks.specs.Marked.{parent_at, parent_word, Place, own_place, sh
 use Rattle.psac_marks.specs.Steps.{spent}
 use Rattle.psac_marks.specs.Promised.{holders, Promised}
 use Rattle.psac_marks.proofs.Parts.{place_cases}
-use Rattle.psac_marks.proofs.Keeps.{at_mapped, place_low}
+use Rattle.psac_marks.proofs.Keeps.{at_mapped, place_low, held_is, lacks}
 use Rattle.psac_marks.proofs.Alone.{dead}
 use Rattle.psac_marks.proofs.Families.{child_own}
 use Rattle.psac_marks.proofs.Holding.{has_live, out_placed}
@@ -94,6 +94,10 @@ module _ (nodes : ℕ) (words : List ℕ) (views : List MarksView) (h : Marked n
   pub promised : Promised nodes words views
   promised = record {
     claims = slots.promised nodes h.counter h.head h.list words (map claims_of views) h.claims;
+    free_lacked = λ i v x e f.
+        let n = slots.unheld words (map claims_of views) (slots.promised nodes h.counter h.head h.list words (map claims_of views) h.claims) x f in
+        let k = held_is nodes words views h x in
+        lacks nodes words views h x (omega (arith, n, k)) i v e;
     placed = λ i v x e m. out_placed nodes words views h i v x e m;
     one_owner = λ i j v u o c e d n a b is. (beside_at i j v u e d n).alone o c a b (sym is);
     own_unshared = λ i j v u o x e d a b. ⊎_elim

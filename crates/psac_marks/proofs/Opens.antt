@@ -1,5 +1,6 @@
 -- The words at the start meet the rule of marks.
 use Rattle.std.proofs.Common.{◌≡◌, ◌≢◌, ℕ, zero, suc, ◌+◌, ◌*◌, ◌<◌, ◌≤◌, List, [], ◌∷◌, ◌++◌, map, length, refl, sym, ap, ◌∙◌, subst, ⊎_elim, arith, None, length-append}
+use Rattle.std.specs.Prelude.{IfSome}
 use Rattle.std.proofs.lemmas.List.{length-map}
 use Rattle.std.proofs.lemmas.Bool.{cases_lt}
 use Rattle.atomic_table.proofs.Lists.{at_longer}
@@ -13,7 +14,8 @@ use Rattle.psac_slots.proofs.Removed.{length-fresh}
 use Rattle.psac_slots.proofs.Sums.{at_new}
 use Rattle.psac_marks.specs.declared.view.OwnView.{OwnView}
 use Rattle.psac_marks.specs.declared.view.SharedView.{SharedView}
-use Rattle.psac_marks.specs.Marked.{Place, Grown, Raising, Stating, rights_of, tree_of, marks_of, states_of, ways, HasOwn, Marked}
+use Rattle.psac_marks.specs.declared.view.MarksView.{MarksView}
+use Rattle.psac_marks.specs.Marked.{Place, Grown, Raising, Stating, rights_of, tree_of, marks_of, states_of, ways, HasOwn, Meeting, Marked}
 use Rattle.psac_marks.specs.Steps.{first_view, blank, first_words}
 use Rattle.psac_marks.specs.Passes.{Carries}
 
@@ -101,6 +103,7 @@ module _ (nodes : ℕ) (fits : nodes < 4294967296) where
           held_is = λ i s d. subst (λ (k : Stating). map Rattle.psac_marks.specs.Marked.handle_of k.states ≡ k.held) (state i s d).1 refl;
           free = λ k x le e. let q = fresh_at nodes k x e in word_at (suc (suc (nodes + 3 * x.slot))) x.slot 2 2 q.0 (omega arith) refl ∙ ap (λ g. some (2 * g)) (sym q.1);
         };
+        met = λ i u e. subst (λ (k : MarksView). IfSome k.met Meeting) (slots.only v i u e).1 tt;
       }
     where
       gone : (x : ℕ) → 0 < 0 → ⊥

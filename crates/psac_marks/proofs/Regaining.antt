@@ -16,6 +16,7 @@ use Rattle.psac_marks.specs.declared.view.MarksView.{MarksView}
 use Rattle.psac_marks.specs.Marked.{claims_of, ways, rights_of, tree_of, marks_of, Stating, states_of, Tree, Climbing, AreStated, Marked}
 use Rattle.psac_marks.specs.Steps.{regained, Regained, rewound, Rewound}
 use Rattle.psac_marks.proofs.Parts.{same_part, new_part}
+use Rattle.psac_marks.proofs.Keeps.{met_after}
 use Rattle.psac_marks.proofs.Trees.{tree_else}
 use Rattle.psac_marks.proofs.Climbs.{climbs_else}
 use Rattle.psac_marks.proofs.Stays.{states_else}
@@ -44,6 +45,7 @@ module _ (nodes : ℕ) (words : List ℕ) (views : List MarksView) (h : Marked n
         tree = same_part tree_of (Tree nodes h.parent words) views id v w at refl h.tree;
         climbs = same_part marks_of (Climbing nodes words) views id v w at refl h.climbs;
         states = same_part states_of (AreStated nodes h.counter h.list words) views id v w at refl h.states;
+        met = met_after nodes words views h id v at w (h.met id v at);
       }
 
   pub rewinds_at : v.claims.counter ≡ Some h.counter → Marked nodes (set words 0 0) (set views id (rewound v))
@@ -64,6 +66,7 @@ module _ (nodes : ℕ) (words : List ℕ) (views : List MarksView) (h : Marked n
         climbs = same_part marks_of (Climbing nodes ws) views id v w at refl (climbs_else nodes words (map marks_of views) 0 0 (λ y q. omega (arith, q)) h.climbs);
         states = same_part states_of (AreStated nodes 0 list ws) views id v w at refl
             (states_else nodes 0 list words (map states_of views) 0 0 (λ y q. omega (arith, q)) (states_rewound nodes h.counter h.list words (map states_of views) h.states));
+        met = met_after nodes words views h id v at w (h.met id v at);
       }
 
 module _ (nodes slots id : ℕ) (v : MarksView) (hs : List (ℕ × Unit {0})) where
@@ -75,7 +78,11 @@ module _ (nodes slots id : ℕ) (v : MarksView) (hs : List (ℕ × Unit {0})) wh
         keeps,
         tt,
         subst (λ (ws : List ℕ). Marked nodes ws (set s.views id (regained n v))) (sym (set-get_or s.words 0 0)) (subst (λ k. Marked nodes s.words (set s.views id (regained k v))) (sym e) (regains_at nodes s.words s.views h id v at live empty)),
-        (refl, nothing_shared nodes s.words s.views h id v at live empty),
+        (
+          refl,
+          nothing_shared nodes s.words s.views h id v at live empty,
+          subst (λ z. claiming.DrewBelow z v.claims) (sym e) (turns.drawn_all nodes h.counter h.head h.list s.words (map claims_of s.views) h.claims id v.claims (at_map claims_of s.views id v at) live empty),
+        ),
       )
 
   pub rewinds : claiming.IsSole v.claims → Allows (λ (s : State (Unit {0}) MarksView). Marked nodes s.words s.views) slots id (v, hs) 0 (λ _. 0) (λ _. Rewound (step slots 0 0 0 vacant) (v, hs) 0)

@@ -1,6 +1,6 @@
 -- Splits keep the rule.
 use Rattle.std.proofs.Common.{◌≡◌, ◌≢◌, ◌⊎◌, ℕ, ◌+◌, ◌<◌, ◌≤◌, List, [], ◌∷◌, ◌++◌, map, length, set, Bool, true, false, true≢false, ltb, refl, sym, ap, ◌∙◌, subst, inl, inr, ⊎_elim, arith, Option, Some, None}
-use Rattle.std.specs.Prelude.{filter, not, ◌&&◌}
+use Rattle.std.specs.Prelude.{filter, not, ◌&&◌, IfSome}
 use Rattle.std.proofs.lemmas.List.Sums.{sum_by_push}
 use Rattle.std.proofs.lemmas.List.{map-append, map-set}
 use Rattle.std.proofs.lemmas.Bool.{cases_eq, cases_Bool, cases_lt, lt-ltb, ltb-true, and_parts}
@@ -16,18 +16,18 @@ use Rattle.psac_slots.specs.Divided.{Rights, Divided, stays, goes, lends}
 use Rattle.psac_slots.proofs.Keeps as laws
 use Rattle.psac_slots.proofs.Sums.{sum_set, all_set, all_end}
 use Rattle.psac_slots.proofs.Turns.{prefix_refl, prefix_long}
-use Rattle.psac_slots.proofs.Pairs.{member_left, member_right, member_filter, filter_member, map_member}
+use Rattle.psac_slots.proofs.Pairs.{member_left, member_right, member_filter, filter_member, map_member, one_after}
 use Rattle.psac_slots.proofs.Dividing.{is_off, divides, told_cases, on_left, on_right, prefix_short_length}
 use Rattle.psac_marks.specs.declared.view.OwnView.{OwnView}
 use Rattle.psac_marks.specs.declared.view.SharedView.{SharedView}
 use Rattle.psac_marks.specs.declared.view.StateView.{StateView}
 use Rattle.psac_marks.specs.declared.view.MarksView.{MarksView}
-use Rattle.psac_marks.specs.Marked.{Place, own_place, shared_place, places, claims_of, handle_of, ways, rights_of, Grown, tree_of, Raising, marks_of, Stating, states_of, Has, HasOwn, Out, held_times, Tree, marks, Supported, Climbing, IsStated, AreStated, Marked}
+use Rattle.psac_marks.specs.Marked.{Place, own_place, shared_place, places, claims_of, handle_of, ways, rights_of, Grown, tree_of, Raising, marks_of, Stating, states_of, Has, HasOwn, Out, held_times, Tree, marks, Supported, Climbing, IsStated, AreStated, Meeting, Marked}
 use Rattle.psac_marks.specs.Steps.{goes_over, stays_here, now_shared, left_of, right_of}
 use Rattle.psac_marks.specs.Passes.{Parted}
 use Rattle.psac_marks.proofs.Parts.{here, place_own, place_shared, place_cases}
 use Rattle.psac_marks.proofs.Counted.{times_both, times_member, times_found, times_in, times_out}
-use Rattle.psac_marks.proofs.Keeps.{at_mapped}
+use Rattle.psac_marks.proofs.Keeps.{at_mapped, drops_own, shared_kept}
 use Rattle.psac_marks.proofs.Families.{below_own}
 use Rattle.psac_marks.proofs.Holding.{branches_apart}
 
@@ -240,6 +240,71 @@ none_on : (a b : Bool) → (a && b) ≡ true → b ≡ false → ⊥
 none_on true b p q = true≢false (sym p ∙ q)
 none_on false b p q = true≢false (sym p)
 
+-- an own node's side
+module _ (shared to_right : ℕ → Bool) (v : MarksView) where
+  -- an own node
+  owned : (o : OwnView) → Member o v.own → ltb 0 (times o.node.slot (map ways.slot v.own)) ≡ true
+  owned o m = let q = times_member o.node.slot (map ways.slot v.own) (map_member ways.slot o v.own m) in lt-ltb 0 (times o.node.slot (map ways.slot v.own)) (omega (arith, q))
+
+  over : (o : OwnView) → Member o v.own → shared o.node.slot ≡ false → to_right o.node.slot ≡ true → goes_over shared to_right v o.node.slot ≡ true
+  over o m s t = both_on _ _ (owned o m) (both_on _ _ (ap not s) t)
+
+  stay : (o : OwnView) → Member o v.own → shared o.node.slot ≡ false → to_right o.node.slot ≡ false → stays_here shared to_right v o.node.slot ≡ true
+  stay o m s t = both_on _ _ (owned o m) (both_on _ _ (ap not s) (ap not t))
+
+  -- what goes over is an own node of the right
+  over_own : (x : ℕ) → goes_over shared to_right v x ≡ true → HasOwn (right_of shared to_right v).own x
+  over_own x e =
+      let p = and_parts _ _ e in
+      let m = member_slot x v.own (times_found x (map ways.slot v.own) (ltb-true 0 (times x (map ways.slot v.own)) p.0)) in
+      (m.0, filter_member (goes ways shared to_right) m.0 v.own m.1 (ap (λ y. not (shared y) && to_right y) m.2 ∙ p.1), m.2)
+    where
+      member_slot : (x : ℕ) (os : List OwnView) → Member x (map ways.slot os) → HasOwn os x
+      member_slot x os m = let q = Rattle.psac_slots.proofs.Pairs.member_map ways.slot x os m in (q.0, q.1, q.2)
+
+  own_left : (o : OwnView) → Member o v.own → shared o.node.slot ≡ false → to_right o.node.slot ≡ false → Member o (left_of shared to_right v).own
+  own_left o m s t = filter_member (stays ways shared to_right) o v.own m (both_on _ _ (ap not s) (ap not t))
+
+  own_right : (o : OwnView) → Member o v.own → shared o.node.slot ≡ false → to_right o.node.slot ≡ true → Member o (right_of shared to_right v).own
+  own_right o m s t = filter_member (goes ways shared to_right) o v.own m (both_on _ _ (ap not s) t)
+
+  module _ (parted : Parted shared to_right v) (own : (x : ℕ) → 0 < times x v.dropped → HasOwn v.own x) where
+    -- what is dropped on a side is that side's own
+    pub left_dropped : (x : ℕ) → 0 < times x (left_of shared to_right v).dropped → HasOwn (left_of shared to_right v).own x
+    left_dropped x p = ⊎_elim
+        (λ (e : goes_over shared to_right v x ≡ true). let z = times_out (λ y. not (goes_over shared to_right v y)) x v.dropped (ap not e) in absurd (omega (arith, p, z)))
+        (λ (e : goes_over shared to_right v x ≡ false).
+        let z = times_in (λ y. not (goes_over shared to_right v y)) x v.dropped (ap not e) in
+        let some : 0 < times x v.dropped = omega (arith, p, z) in
+        let o = own x some in
+        let s : shared o.0.node.slot ≡ false = ap shared o.2 ∙ parted.dropped x some in
+        (o.0, own_left o.0 o.1 s (⊎_elim (λ (t : to_right o.0.node.slot ≡ true). absurd (true≢false (sym (over o.0 o.1 s t) ∙ (ap (goes_over shared to_right v) o.2 ∙ e)))) (λ t. t) (cases_Bool (to_right o.0.node.slot))), o.2))
+        (cases_Bool (goes_over shared to_right v x))
+
+    pub right_dropped : (x : ℕ) → 0 < times x (right_of shared to_right v).dropped → HasOwn (right_of shared to_right v).own x
+    right_dropped x p = ⊎_elim
+        (λ (e : goes_over shared to_right v x ≡ true). over_own x e)
+        (λ (e : goes_over shared to_right v x ≡ false). let z = times_out (goes_over shared to_right v) x v.dropped e in absurd (omega (arith, p, z)))
+        (cases_Bool (goes_over shared to_right v x))
+
+  module _ (parted : Parted shared to_right v) (kept : (s : SharedView) → Member s v.shared → times s.node.slot v.dropped ≡ 0) where
+    -- a node that is shared from here on, or was, isn't dropped
+    told_kept : (s : SharedView) → Member s (now_shared shared to_right v) → times s.node.slot v.dropped ≡ 0
+    told_kept s m = ⊎_elim
+        (λ q. kept s q)
+        (λ (q : (w : OwnView) × Member w v.own × (shared w.node.slot ≡ true) × (ways.lend v.claims.branch w ≡ s)). ⊎_elim
+        (λ (p : 0 < times s.node.slot v.dropped). absurd (true≢false (sym q.2 ∙ (ap (λ (z : SharedView). shared z.node.slot) q.3 ∙ parted.dropped s.node.slot p))))
+        (λ z. omega (arith, z))
+        (cases_lt 0 (times s.node.slot v.dropped)))
+        (told_cases ways shared to_right (rights_of v) s m)
+
+    -- so it isn't on a side
+    pub side_kept : (p : ℕ → Bool) (s : SharedView) → Member s (now_shared shared to_right v) → times s.node.slot (filter p v.dropped) ≡ 0
+    side_kept p s m = ⊎_elim
+        (λ (e : p s.node.slot ≡ true). times_in p s.node.slot v.dropped e ∙ told_kept s m)
+        (λ (e : p s.node.slot ≡ false). times_out p s.node.slot v.dropped e)
+        (cases_Bool (p s.node.slot))
+
 module _ (shared to_right : ℕ → Bool) (nodes : ℕ) (words : List ℕ) (views : List MarksView) (h : Marked nodes words views) (id : ℕ) (v : MarksView) (at : get_elem? views id ≡ some v) (parted : Parted shared to_right v) where
   abbrev pub l : MarksView
   l = left_of shared to_right v
@@ -252,32 +317,6 @@ module _ (shared to_right : ℕ → Bool) (nodes : ℕ) (words : List ℕ) (view
 
   ar : get_elem? (map rights_of views) id ≡ some (rights_of v)
   ar = at_map rights_of views id v at
-
-  -- an own node
-  owned : (o : OwnView) → Member o v.own → ltb 0 (times o.node.slot (map ways.slot v.own)) ≡ true
-  owned o m = let q = times_member o.node.slot (map ways.slot v.own) (map_member ways.slot o v.own m) in lt-ltb 0 (times o.node.slot (map ways.slot v.own)) (omega (arith, q))
-
-  over : (o : OwnView) → Member o v.own → shared o.node.slot ≡ false → to_right o.node.slot ≡ true → goes_over shared to_right v o.node.slot ≡ true
-  over o m s t = both_on _ _ (owned o m) (both_on _ _ (ap not s) t)
-
-  stay : (o : OwnView) → Member o v.own → shared o.node.slot ≡ false → to_right o.node.slot ≡ false → stays_here shared to_right v o.node.slot ≡ true
-  stay o m s t = both_on _ _ (owned o m) (both_on _ _ (ap not s) (ap not t))
-
-  -- what goes over is an own node of the right
-  over_own : (x : ℕ) → goes_over shared to_right v x ≡ true → HasOwn r.own x
-  over_own x e =
-      let p = and_parts _ _ e in
-      let m = member_slot x v.own (times_found x (map ways.slot v.own) (ltb-true 0 (times x (map ways.slot v.own)) p.0)) in
-      (m.0, filter_member (goes ways shared to_right) m.0 v.own m.1 (ap (λ y. not (shared y) && to_right y) m.2 ∙ p.1), m.2)
-    where
-      member_slot : (x : ℕ) (os : List OwnView) → Member x (map ways.slot os) → HasOwn os x
-      member_slot x os m = let q = Rattle.psac_slots.proofs.Pairs.member_map ways.slot x os m in (q.0, q.1, q.2)
-
-  own_left : (o : OwnView) → Member o v.own → shared o.node.slot ≡ false → to_right o.node.slot ≡ false → Member o l.own
-  own_left o m s t = filter_member (stays ways shared to_right) o v.own m (both_on _ _ (ap not s) (ap not t))
-
-  own_right : (o : OwnView) → Member o v.own → shared o.node.slot ≡ false → to_right o.node.slot ≡ true → Member o r.own
-  own_right o m s t = filter_member (goes ways shared to_right) o v.own m (both_on _ _ (ap not s) t)
 
   told_old : (s : SharedView) → Member s v.shared → Member s (now_shared shared to_right v)
   told_old s m = member_left s v.shared (map (ways.lend b) (filter (lends ways shared to_right) v.own)) m
@@ -294,8 +333,8 @@ module _ (shared to_right : ℕ → Bool) (nodes : ℕ) (words : List ℕ) (view
       (λ (s : shared p.0.node.slot ≡ true). let t = told_lent p.0 p.1 s in
       inl ((shared_place (ways.lend b p.0), place_shared l (ways.lend b p.0) t, slot), (shared_place (ways.lend b p.0), place_shared r (ways.lend b p.0) t, slot)))
       (λ (s : shared p.0.node.slot ≡ false). inr (⊎_elim
-      (λ (t : to_right p.0.node.slot ≡ true). inr ((own_place r.claims.branch p.0, place_own r p.0 (own_right p.0 p.1 s t), slot), ap (goes_over shared to_right v) (sym slot) ∙ over p.0 p.1 s t))
-      (λ (t : to_right p.0.node.slot ≡ false). inl ((own_place l.claims.branch p.0, place_own l p.0 (own_left p.0 p.1 s t), slot), ap (stays_here shared to_right v) (sym slot) ∙ stay p.0 p.1 s t))
+      (λ (t : to_right p.0.node.slot ≡ true). inr ((own_place r.claims.branch p.0, place_own r p.0 (own_right shared to_right v p.0 p.1 s t), slot), ap (goes_over shared to_right v) (sym slot) ∙ over shared to_right v p.0 p.1 s t))
+      (λ (t : to_right p.0.node.slot ≡ false). inl ((own_place l.claims.branch p.0, place_own l p.0 (own_left shared to_right v p.0 p.1 s t), slot), ap (stays_here shared to_right v) (sym slot) ∙ stay shared to_right v p.0 p.1 s t))
       (cases_Bool (to_right p.0.node.slot))))
       (cases_Bool (shared p.0.node.slot)))
       (λ (p : (s : SharedView) × Member s v.shared × (shared_place s ≡ has.0)).
@@ -314,36 +353,7 @@ module _ (shared to_right : ℕ → Bool) (nodes : ℕ) (words : List ℕ) (view
   right_has x has e = ⊎_elim (λ p. p.1) (λ y. ⊎_elim (λ p. absurd (true≢false (sym p.1 ∙ e))) (λ p. p.0) y) (both_have x has)
 
   over_has : (x : ℕ) → goes_over shared to_right v x ≡ true → Has (places r) x
-  over_has x e = let o = over_own x e in (own_place r.claims.branch o.0, place_own r o.0 o.1, o.2)
-
-  left_dropped : (x : ℕ) → 0 < times x l.dropped → HasOwn l.own x
-  left_dropped x p = ⊎_elim
-      (λ (e : goes_over shared to_right v x ≡ true). let z = times_out (λ y. not (goes_over shared to_right v y)) x v.dropped (ap not e) in absurd (omega (arith, p, z)))
-      (λ (e : goes_over shared to_right v x ≡ false).
-      let z = times_in (λ y. not (goes_over shared to_right v y)) x v.dropped (ap not e) in
-      let some : 0 < times x v.dropped = omega (arith, p, z) in
-      let o = h.tree.dropped id (tree_of v) x (at_map tree_of views id v at) some in
-      let s : shared o.0.node.slot ≡ false = ap shared o.2 ∙ parted.dropped x some in
-      (o.0, own_left o.0 o.1 s (⊎_elim (λ (t : to_right o.0.node.slot ≡ true). absurd (true≢false (sym (over o.0 o.1 s t) ∙ (ap (goes_over shared to_right v) o.2 ∙ e)))) (λ t. t) (cases_Bool (to_right o.0.node.slot))), o.2))
-      (cases_Bool (goes_over shared to_right v x))
-
-  right_dropped : (x : ℕ) → 0 < times x r.dropped → HasOwn r.own x
-  right_dropped x p = ⊎_elim
-      (λ (e : goes_over shared to_right v x ≡ true). over_own x e)
-      (λ (e : goes_over shared to_right v x ≡ false). let z = times_out (goes_over shared to_right v) x v.dropped e in absurd (omega (arith, p, z)))
-      (cases_Bool (goes_over shared to_right v x))
-
-  -- a node that is shared from here on, or was, isn't dropped
-  told_kept : (s : SharedView) → Member s (now_shared shared to_right v) → times s.node.slot v.dropped ≡ 0
-  told_kept s m = ⊎_elim
-      (λ (p : 0 < times s.node.slot v.dropped).
-      let o = h.tree.dropped id (tree_of v) s.node.slot (at_map tree_of views id v at) p in
-      ⊎_elim
-      (λ q. absurd ((h.rights.own id (rights_of v) ar).apart o.0 o.1 s q (sym o.2)))
-      (λ (q : (w : OwnView) × Member w v.own × (shared w.node.slot ≡ true) × (ways.lend b w ≡ s)). absurd (true≢false (sym q.2 ∙ (ap (λ (z : SharedView). shared z.node.slot) q.3 ∙ parted.dropped s.node.slot p))))
-      (told_cases ways shared to_right (rights_of v) s m))
-      (λ z. omega (arith, z))
-      (cases_lt 0 (times s.node.slot v.dropped))
+  over_has x e = let o = over_own shared to_right v x e in (own_place r.claims.branch o.0, place_own r o.0 o.1, o.2)
 
   told_from : (t : Bool) (s : SharedView) → Member s (now_shared shared to_right v) → From shared to_right b v.own v.dropped (places v) t (shared_place s)
   told_from t s m = ⊎_elim
@@ -361,7 +371,7 @@ module _ (shared to_right : ℕ → Bool) (nodes : ℕ) (words : List ℕ) (view
             sym (times_in (λ y. not (goes_over shared to_right v y)) e.node.slot v.dropped (ap not off_here)) ∙ z,
       ))
       (λ (p : (s : SharedView) × Member s l.shared × (shared_place s ≡ e)).
-      subst (λ (y : Place). From shared to_right b v.own v.dropped (places v) false y × (Kept l.dropped y → Kept v.dropped y)) p.2 (told_from false p.0 p.1, λ _. told_kept p.0 p.1))
+      subst (λ (y : Place). From shared to_right b v.own v.dropped (places v) false y × (Kept l.dropped y → Kept v.dropped y)) p.2 (told_from false p.0 p.1, λ _. told_kept shared to_right v parted (shared_kept nodes words views h id v at) p.0 p.1))
       (place_cases l e m)
 
   on_the_right : (e : Place) → Member e (places r) → From shared to_right b v.own v.dropped (places v) true e × (Kept r.dropped e → Kept v.dropped e)
@@ -370,10 +380,10 @@ module _ (shared to_right : ℕ → Bool) (nodes : ℕ) (words : List ℕ) (view
       let q = on_right ways shared to_right (rights_of v) p.0 p.1 in (
         inr (inr (p.0, q.0, q.1, q.2, p.2)),
         λ z. let slot = ap (λ (y : Place). y.node.slot) p.2 in
-            sym (times_in (goes_over shared to_right v) e.node.slot v.dropped (ap (goes_over shared to_right v) (sym slot) ∙ over p.0 q.0 q.1 q.2)) ∙ z,
+            sym (times_in (goes_over shared to_right v) e.node.slot v.dropped (ap (goes_over shared to_right v) (sym slot) ∙ over shared to_right v p.0 q.0 q.1 q.2)) ∙ z,
       ))
       (λ (p : (s : SharedView) × Member s r.shared × (shared_place s ≡ e)).
-      subst (λ (y : Place). From shared to_right b v.own v.dropped (places v) true y × (Kept r.dropped y → Kept v.dropped y)) p.2 (told_from true p.0 p.1, λ _. told_kept p.0 p.1))
+      subst (λ (y : Place). From shared to_right b v.own v.dropped (places v) true y × (Kept r.dropped y → Kept v.dropped y)) p.2 (told_from true p.0 p.1, λ _. told_kept shared to_right v parted (shared_kept nodes words views h id v at) p.0 p.1))
       (place_cases r e m)
 
   -- and so each place is one that was
@@ -437,7 +447,7 @@ module _ (shared to_right : ℕ → Bool) (nodes : ℕ) (words : List ℕ) (view
           (let lu = ap (λ (z : Rights OwnView SharedView). z.live) q.2 ∙ ls in (branches_apart nodes words views h id j v q.0 at q.1 (λ p. n (sym p)) live lu, branches_apart nodes words views h j id q.0 v q.1 at n lu live)))));
       tree = split_mapped tree_of (Tree nodes h.parent words)
           (tree_splits shared to_right b v.own v.dropped parted.families nodes h.parent words (map tree_of views) h.tree id (places v) (places l) (places r) l.own r.own l.dropped r.dropped v.claims.held
-          (at_map tree_of views id v at) (λ o m. place_own v o m) on_the_left on_the_right left_dropped right_dropped has_sides
+          (at_map tree_of views id v at) (λ o m. place_own v o m) on_the_left on_the_right (left_dropped shared to_right v parted (drops_own nodes words views h id v at)) (right_dropped shared to_right v parted (drops_own nodes words views h id v at)) has_sides
           (λ j g e n d m. let q = at_mapped tree_of views j g d in far j q.0 e n q.1 (subst (λ (k : Grown). Member e k.places) (sym q.2) m)));
       climbs = split_mapped marks_of (Climbing nodes words)
           (subst (λ c. Climbing nodes words (set (map marks_of views) id (record { places = places l; dropped = l.dropped; marked = l.marked; busy = l.busy; climb = c }) ++ marks_of r ∷ [])) (sym idle)
@@ -451,4 +461,5 @@ module _ (shared to_right : ℕ → Bool) (nodes : ℕ) (words : List ℕ) (view
           (λ x p. let q = busy_was (λ y. not (goes_over shared to_right v y)) x p in (left_has x q.1 (is_off (goes_over shared to_right v x) q.0), q.2))
           (λ x p. let q = busy_was (λ y. not (stays_here shared to_right v y)) x p in (right_has x q.1 (is_off (stays_here shared to_right v x) q.0), q.2))));
       states = split_mapped states_of (AreStated nodes h.counter h.list words) (states_splits nodes h.counter h.list words (map states_of views) h.states id (states_of v) (at_map states_of views id v at));
+      met = one_after (λ (u : MarksView). IfSome u.met Meeting) views id l r h.met tt tt;
     }

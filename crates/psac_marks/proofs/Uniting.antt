@@ -1,6 +1,6 @@
 -- Joins keep the rule.
 use Rattle.std.proofs.Common.{◌≡◌, ◌≢◌, ◌⊎◌, ℕ, ◌<◌, ◌≤◌, List, [], ◌∷◌, ◌++◌, map, length, set, Bool, true, false, true≢false, cond, refl, sym, ap, ◌∙◌, subst, inl, inr, ⊎_elim, arith, Option, Some, None, length-append}
-use Rattle.std.specs.Prelude.{filter, not, ◌==◌}
+use Rattle.std.specs.Prelude.{filter, not, ◌==◌, IfSome}
 use Rattle.std.proofs.lemmas.List.Sums.{sum_by-append}
 use Rattle.std.proofs.lemmas.List.{map-append, map-set}
 use Rattle.std.proofs.lemmas.Bool.{cases_eq, cases_Bool, cases_lt}
@@ -15,15 +15,16 @@ use Rattle.psac_slots.specs.Claiming.{times}
 use Rattle.psac_slots.specs.Divided.{Rights, Divided, above, comes_back}
 use Rattle.psac_slots.proofs.Keeps as laws
 use Rattle.psac_slots.proofs.Sums.{sum_set, all_set}
-use Rattle.psac_slots.proofs.Turns.{prefix_refl, prefix_long, stem_push}
+use Rattle.psac_slots.proofs.Turns.{prefix_refl, stem_push}
 use Rattle.psac_slots.proofs.Pairs.{member_left, member_right, member_cases, filter_member, map_member}
-use Rattle.psac_slots.proofs.Dividing.{Strangers, unites, alone_cases, is_above, prefix_cut, prefix_whole, prefix_short_length, prefix_through}
+use Rattle.psac_slots.proofs.Dividing.{Strangers, unites, alone_cases, is_above, shared_same, meets, prefix_cut, prefix_whole, prefix_short_length, prefix_through}
 use Rattle.psac_marks.specs.declared.view.OwnView.{OwnView}
 use Rattle.psac_marks.specs.declared.view.SharedView.{SharedView}
 use Rattle.psac_marks.specs.declared.view.StateView.{StateView}
 use Rattle.psac_marks.specs.declared.view.MarksView.{MarksView}
-use Rattle.psac_marks.specs.Marked.{Place, own_place, shared_place, places, claims_of, handle_of, ways, rights_of, Grown, tree_of, Raising, marks_of, Stating, states_of, Has, HasOwn, Out, held_times, Tree, marks, Supported, Climbing, IsStated, AreStated, Marked}
-use Rattle.psac_marks.specs.Steps.{joined, spent}
+use Rattle.psac_marks.specs.Marked.{Place, own_place, shared_place, places, claims_of, handle_of, ways, rights_of, Grown, tree_of, Raising, marks_of, Stating, states_of, Has, HasOwn, Out, held_times, Tree, marks, Supported, Climbing, IsStated, AreStated, Meeting, Marked}
+use Rattle.psac_marks.specs.Steps.{Lacks, joined, met, spent}
+use Rattle.psac_marks.specs.Passes.{United}
 use Rattle.psac_marks.proofs.Parts.{here, place_own, place_shared, place_cases}
 use Rattle.psac_marks.proofs.Counted.{times_both}
 use Rattle.psac_marks.proofs.Keeps.{at_mapped}
@@ -233,6 +234,51 @@ states_joins nodes counter list words all h id other s t at was =
       free = h.free;
     }
 
+-- what both sides have together
+module _ (v w : MarksView) where
+  pub own_left : (o : OwnView) → Member o v.own → Member o (joined v w).own
+  own_left o m = member_left o (v.own ++ w.own) (map ways.back (filter (comes_back ways (stem v.claims.branch)) v.shared)) (member_left o v.own w.own m)
+
+  pub own_right : (o : OwnView) → Member o w.own → Member o (joined v w).own
+  own_right o m = member_left o (v.own ++ w.own) (map ways.back (filter (comes_back ways (stem v.claims.branch)) v.shared)) (member_right o v.own w.own m)
+
+  shared_has : (s : SharedView) → Member s v.shared → Has (places (joined v w)) s.node.slot
+  shared_has s m = ⊎_elim
+      (λ (p : above ways (stem v.claims.branch) s ≡ true). (shared_place s, place_shared (joined v w) s (filter_member (above ways (stem v.claims.branch)) s v.shared m p), refl))
+      (λ (p : above ways (stem v.claims.branch) s ≡ false). (
+        own_place (stem v.claims.branch) (ways.back s),
+        place_own (joined v w) (ways.back s) (member_right (ways.back s) (v.own ++ w.own) (map ways.back (filter (comes_back ways (stem v.claims.branch)) v.shared))
+            (map_member ways.back s (filter (comes_back ways (stem v.claims.branch)) v.shared) (filter_member (comes_back ways (stem v.claims.branch)) s v.shared m (ap not p)))),
+        refl,
+      ))
+      (cases_Bool (above ways (stem v.claims.branch) s))
+
+  pub from_left : (x : ℕ) → Has (places v) x → Has (places (joined v w)) x
+  from_left x has = subst (Has (places (joined v w))) has.2 (⊎_elim
+      (λ (p : (o : OwnView) × Member o v.own × (own_place v.claims.branch o ≡ has.0)). (own_place (stem v.claims.branch) p.0, place_own (joined v w) p.0 (own_left p.0 p.1), ap (λ (z : Place). z.node.slot) p.2))
+      (λ (p : (s : SharedView) × Member s v.shared × (shared_place s ≡ has.0)). subst (Has (places (joined v w))) (ap (λ (z : Place). z.node.slot) p.2) (shared_has p.0 p.1))
+      (place_cases v has.0 has.1))
+
+  pub from_right : ((e : SharedView) → Member e w.shared → Member e v.shared) → (x : ℕ) → Has (places w) x → Has (places (joined v w)) x
+  from_right same x has = subst (Has (places (joined v w))) has.2 (⊎_elim
+      (λ (p : (o : OwnView) × Member o w.own × (own_place w.claims.branch o ≡ has.0)). (own_place (stem v.claims.branch) p.0, place_own (joined v w) p.0 (own_right p.0 p.1), ap (λ (z : Place). z.node.slot) p.2))
+      (λ (p : (s : SharedView) × Member s w.shared × (shared_place s ≡ has.0)). subst (Has (places (joined v w))) (ap (λ (z : Place). z.node.slot) p.2) (shared_has p.0 (same p.0 p.1)))
+      (place_cases w has.0 has.1))
+
+  -- what two sides are together
+  pub unites_views : Meeting (record { left = v.own; right = w.own; shared_left = v.shared; shared_right = w.shared }) → United v w (joined v w)
+  unites_views m =
+      let lacks : (u : MarksView) (o : OwnView) → ((c : OwnView) → Member c u.own → c.node.slot ≢ o.node.slot) → ((e : SharedView) → Member e u.shared → e.node.slot ≢ o.node.slot) → Lacks u o.node.slot = λ u o f g e has is. ⊎_elim
+      (λ (p : (c : OwnView) × Member c u.own × (own_place u.claims.branch c ≡ e)). f p.0 p.1 (ap (λ (z : Place). z.node.slot) p.2 ∙ is))
+      (λ (p : (s : SharedView) × Member s u.shared × (shared_place s ≡ e)). g p.0 p.1 (ap (λ (z : Place). z.node.slot) p.2 ∙ is))
+      (place_cases u e has) in
+      record {
+        left_alone = λ o q. lacks w o (λ c r is. m.alone o c q r (sym is)) (λ e r is. m.left o e q r is);
+        right_alone = λ o q. lacks v o (λ c r is. m.alone c o r q is) (λ e r is. m.right o e q r is);
+        owns = λ h o. ⊎_elim (λ q. (q.0, own_left q.0 q.1, q.2)) (λ q. (q.0, own_right q.0 q.1, q.2)) o;
+        has = λ x o. ⊎_elim (λ p. from_left x p) (λ q. from_right m.same x q) o;
+      }
+
 module _ (nodes : ℕ) (words : List ℕ) (views : List MarksView) (h : Marked nodes words views) (id other : ℕ) (v w : MarksView) (b : List Bool) (at : get_elem? views id ≡ some v) (was : get_elem? views other ≡ some w) (two : other ≢ id) (live : v.claims.live ≡ true) (alive : w.claims.live ≡ true) (lb : v.claims.branch ≡ b ++ false ∷ []) (rb : w.claims.branch ≡ b ++ true ∷ []) where
   base : stem v.claims.branch ≡ b
   base = ap stem lb ∙ stem_push b false
@@ -243,15 +289,8 @@ module _ (nodes : ℕ) (words : List ℕ) (views : List MarksView) (h : Marked n
   aw : get_elem? (map rights_of views) other ≡ some (rights_of w)
   aw = at_map rights_of views other w was
 
-  -- what the right side shares, the left side shares
-  shared_same : (e : SharedView) → Member e w.shared → Member e v.shared
-  shared_same e m =
-      let o = (h.rights.own other (rights_of w) aw).labels e m in
-      let sides = h.rights.beside other id (rights_of w) (rights_of v) aw av two in
-      let n = ap length rb in
-      let k = length-append b (true ∷ []) in
-      let s = o.1 in
-      sides.below e m live (ap (λ (z : List Bool). is_prefix e.label z) lb ∙ prefix_long e.label b false (prefix_cut e.label b true (ap (λ (z : List Bool). is_prefix e.label z) (sym rb) ∙ o.0) (omega (arith, n, k, s))))
+  same : (e : SharedView) → Member e w.shared → Member e v.shared
+  same = shared_same ways (map rights_of views) id other (rights_of v) (rights_of w) b h.rights av aw two live alive lb rb
 
   strange : (j : ℕ) (u : Rights OwnView SharedView) → j ≢ id → j ≢ other → get_elem? (map rights_of views) j ≡ some u → u.live ≡ true → Strangers v.claims.branch u.branch × Strangers w.claims.branch u.branch
   strange j u n o e lu =
@@ -303,39 +342,10 @@ module _ (nodes : ℕ) (words : List ℕ) (views : List MarksView) (h : Marked n
       (shared_place p.0, inl (place_shared v p.0 q.0), ap (λ (z : Place). z.node) (sym p.2), ap (λ (z : Place). z.parent) (sym p.2), inl (ap (λ (z : Place). z.domain) (sym p.2), short p.0.label (let l = q.1 in omega (arith, l)))))
       (place_cases (joined v w) e m)
 
-  own_left : (o : OwnView) → Member o v.own → Member o (joined v w).own
-  own_left o m = member_left o (v.own ++ w.own) (map ways.back (filter (comes_back ways (stem v.claims.branch)) v.shared)) (member_left o v.own w.own m)
+  two_mapped : {P : Type 0} (f : MarksView → P) (F : List P → Type 0) → F (set (set (map f views) id (f (met v w))) other (f spent)) → F (map f (set (set views id (met v w)) other spent))
+  two_mapped f F = subst F (sym (map-set f (set views id (met v w)) other spent ∙ ap (λ z. set z other (f spent)) (map-set f views id (met v w))))
 
-  own_right : (o : OwnView) → Member o w.own → Member o (joined v w).own
-  own_right o m = member_left o (v.own ++ w.own) (map ways.back (filter (comes_back ways (stem v.claims.branch)) v.shared)) (member_right o v.own w.own m)
-
-  shared_has : (s : SharedView) → Member s v.shared → Has (places (joined v w)) s.node.slot
-  shared_has s m = ⊎_elim
-      (λ (p : above ways (stem v.claims.branch) s ≡ true). (shared_place s, place_shared (joined v w) s (filter_member (above ways (stem v.claims.branch)) s v.shared m p), refl))
-      (λ (p : above ways (stem v.claims.branch) s ≡ false). (
-        own_place (stem v.claims.branch) (ways.back s),
-        place_own (joined v w) (ways.back s) (member_right (ways.back s) (v.own ++ w.own) (map ways.back (filter (comes_back ways (stem v.claims.branch)) v.shared))
-            (map_member ways.back s (filter (comes_back ways (stem v.claims.branch)) v.shared) (filter_member (comes_back ways (stem v.claims.branch)) s v.shared m (ap not p)))),
-        refl,
-      ))
-      (cases_Bool (above ways (stem v.claims.branch) s))
-
-  from_left : (x : ℕ) → Has (places v) x → Has (places (joined v w)) x
-  from_left x has = subst (Has (places (joined v w))) has.2 (⊎_elim
-      (λ (p : (o : OwnView) × Member o v.own × (own_place v.claims.branch o ≡ has.0)). (own_place (stem v.claims.branch) p.0, place_own (joined v w) p.0 (own_left p.0 p.1), ap (λ (z : Place). z.node.slot) p.2))
-      (λ (p : (s : SharedView) × Member s v.shared × (shared_place s ≡ has.0)). subst (Has (places (joined v w))) (ap (λ (z : Place). z.node.slot) p.2) (shared_has p.0 p.1))
-      (place_cases v has.0 has.1))
-
-  from_right : (x : ℕ) → Has (places w) x → Has (places (joined v w)) x
-  from_right x has = subst (Has (places (joined v w))) has.2 (⊎_elim
-      (λ (p : (o : OwnView) × Member o w.own × (own_place w.claims.branch o ≡ has.0)). (own_place (stem v.claims.branch) p.0, place_own (joined v w) p.0 (own_right p.0 p.1), ap (λ (z : Place). z.node.slot) p.2))
-      (λ (p : (s : SharedView) × Member s w.shared × (shared_place s ≡ has.0)). subst (Has (places (joined v w))) (ap (λ (z : Place). z.node.slot) p.2) (shared_has p.0 (shared_same p.0 p.1)))
-      (place_cases w has.0 has.1))
-
-  two_mapped : {P : Type 0} (f : MarksView → P) (F : List P → Type 0) → F (set (set (map f views) id (f (joined v w))) other (f spent)) → F (map f (set (set views id (joined v w)) other spent))
-  two_mapped f F = subst F (sym (map-set f (set views id (joined v w)) other spent ∙ ap (λ z. set z other (f spent)) (map-set f views id (joined v w))))
-
-  pub joins_at : v.climb ≡ None → w.climb ≡ None → Marked nodes words (set (set views id (joined v w)) other spent)
+  pub joins_at : v.climb ≡ None → w.climb ≡ None → Marked nodes words (set (set views id (met v w)) other spent)
   joins_at idle_v idle_w = record {
     counter = h.counter;
     head = h.head;
@@ -346,14 +356,16 @@ module _ (nodes : ℕ) (words : List ℕ) (views : List MarksView) (h : Marked n
         (laws.joins_at nodes h.counter h.head h.list words (map claims_of views) h.claims id other v.claims w.claims b (at_map claims_of views id v at) (at_map claims_of views other w was) two live alive lb rb);
     rights = two_mapped rights_of (Divided ways) (unites ways (map rights_of views) id other (rights_of v) (rights_of w) b h.rights av aw two live alive lb rb strange);
     tree = two_mapped tree_of (Tree nodes h.parent words)
-        (tree_joins b (places (joined v w)) (places v) (places w) id other two sources from_left from_right nodes h.parent words (map tree_of views) h.tree v.own w.own (joined v w).own v.dropped w.dropped v.claims.held w.claims.held
-        (at_map tree_of views id v at) (at_map tree_of views other w was) own_left own_right
+        (tree_joins b (places (joined v w)) (places v) (places w) id other two sources (from_left v w) (from_right v w same) nodes h.parent words (map tree_of views) h.tree v.own w.own (joined v w).own v.dropped w.dropped v.claims.held w.claims.held
+        (at_map tree_of views id v at) (at_map tree_of views other w was) (own_left v w) (own_right v w)
         (λ j g e n o d m t. let q = at_mapped tree_of views j g d in far j q.0 e n o q.1 (subst (λ (k : Grown). Member e k.places) (sym q.2) m) t));
     climbs = two_mapped marks_of (Climbing nodes words)
         (subst (λ c. Climbing nodes words (set (set (map marks_of views) id (record { places = places (joined v w); dropped = v.dropped ++ w.dropped; marked = v.marked ++ w.marked; busy = v.busy ++ w.busy; climb = c })) other no_marks)) (sym idle_v)
-        (climbs_joins b (places (joined v w)) (places v) (places w) id other two sources from_left from_right nodes words (map marks_of views) h.climbs v.dropped w.dropped v.marked w.marked v.busy w.busy
+        (climbs_joins b (places (joined v w)) (places v) (places w) id other two sources (from_left v w) (from_right v w same) nodes words (map marks_of views) h.climbs v.dropped w.dropped v.marked w.marked v.busy w.busy
         (at_map marks_of views id v at ∙ ap (λ c. some (record { places = places v; dropped = v.dropped; marked = v.marked; busy = v.busy; climb = c })) idle_v)
         (at_map marks_of views other w was ∙ ap (λ c. some (record { places = places w; dropped = w.dropped; marked = w.marked; busy = w.busy; climb = c })) idle_w)));
     states = two_mapped states_of (AreStated nodes h.counter h.list words)
         (states_joins nodes h.counter h.list words (map states_of views) h.states id other (states_of v) (states_of w) (at_map states_of views id v at) (at_map states_of views other w was));
+    met = all_set (λ _ (u : MarksView). IfSome u.met Meeting) (set views id (met v w)) other spent tt
+        (λ j u n e. all_set (λ _ (u : MarksView). IfSome u.met Meeting) views id (met v w) (meets ways (map rights_of views) id other (rights_of v) (rights_of w) b h.rights av aw two live alive lb rb) (λ i y o d. h.met i y d) j u e);
   }

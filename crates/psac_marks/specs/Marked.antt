@@ -1,17 +1,18 @@
 -- The rule of a table of marks.
-use Rattle.std.specs.Prelude.{◌≡◌, ◌⊎◌, ℕ, suc, ◌+◌, ◌*◌, ◌<◌, ◌≤◌, List, map, ◌++◌, length, Bool, true, Option, Some, None, sum_by}
+use Rattle.std.specs.Prelude.{◌≡◌, ◌⊎◌, ℕ, suc, ◌+◌, ◌*◌, ◌<◌, ◌≤◌, List, map, ◌++◌, length, Bool, true, Option, Some, None, sum_by, IfSome}
 use mathlib.Core.Option.{some}
 use lib.ListN.{get_elem?}
 use Rattle.psac_ops.specs.declared.plain.Handle.{Handle}
 use Rattle.psac_slots.specs.Branches.{is_prefix}
 use Rattle.psac_slots.specs.Handles.{Member, slot_times}
-use Rattle.psac_slots.specs.Divided.{Ways, Rights, Divided}
+use Rattle.psac_slots.specs.Divided.{Ways, Rights, Divided, Met}
 use Rattle.psac_slots.specs.declared.view.ClaimView.{ClaimView}
 use Rattle.psac_slots.specs.Claiming as claiming
 use Rattle.psac_slots.specs.Claiming.{times}
 use Rattle.psac_marks.specs.declared.view.OwnView.{OwnView}
 use Rattle.psac_marks.specs.declared.view.SharedView.{SharedView}
 use Rattle.psac_marks.specs.declared.view.StateView.{StateView}
+use Rattle.psac_marks.specs.declared.view.MetView.{MetView}
 use Rattle.psac_marks.specs.declared.view.MarksView.{MarksView}
 
 -- word 0 is the counter, then come the ring, and for each node its mark, its parent and its state
@@ -70,6 +71,10 @@ ways = record {
 
 abbrev pub rights_of : MarksView → Rights OwnView SharedView
 rights_of v = record { live = v.claims.live; branch = v.claims.branch; alone = v.own; shared = v.shared }
+
+-- what two passes had when they were joined
+abbrev pub Meeting : MetView → Type 0
+Meeting m = Met ways m.left m.right m.shared_left m.shared_right
 
 -- what a pass has of the tree
 pub record Grown : Type 0 where
@@ -169,3 +174,4 @@ pub record Marked (nodes : ℕ) (words : List ℕ) (views : List MarksView) : Ty
   pub tree : Tree nodes parent words (map tree_of views)
   pub climbs : Climbing nodes words (map marks_of views)
   pub states : AreStated nodes counter list words (map states_of views)
+  pub met : (i : ℕ) (v : MarksView) → get_elem? views i ≡ some v → IfSome v.met Meeting

@@ -7,8 +7,8 @@ use Rattle.psac_slots.specs.Claiming.{times}
 use Rattle.psac_marks.specs.declared.view.OwnView.{OwnView}
 use Rattle.psac_marks.specs.declared.view.StateView.{StateView}
 use Rattle.psac_marks.specs.declared.view.MarksView.{MarksView}
-use Rattle.psac_marks.specs.Marked.{Place, places, handle_of, out_word}
-use Rattle.psac_marks.specs.Steps.{raised}
+use Rattle.psac_marks.specs.Marked.{Place, places, Has, handle_of, out_word}
+use Rattle.psac_marks.specs.Steps.{Lacks, raised}
 
 -- what a pass carries, beside its view
 pub record Carries (nodes head room words : ℕ) (v : MarksView) : Type 0 where
@@ -49,10 +49,11 @@ abbrev pub Leads : MarksView → ℕ → List Place → Type 0
 Leads v x [] = ⊥
 Leads v x (e ∷ es) = (e.node.slot ≡ x) × Member e (places v) × IsKept v x × ((e.parent ≡ None) ⊎ (IsBusy v x ⊎ ((p : ℕ) × (e.parent ≡ Some p) × Leads v p es)))
 
--- from x on these nodes, each the parent of the one before and none known to be marked, are marked anew, and then comes one that was marked, or none above a root
+-- from x on these nodes, each the parent of the one before and none known to be marked, are marked anew, and then comes one that was marked, or none above a root. That is
+-- so along each place that the pass has of a node
 abbrev pub Rises : MarksView → ℕ → List ℕ → Option ℕ → Type 0
 Rises v x [] end = end ≡ Some x
-Rises v x (y ∷ ys) end = (y ≡ x) × (IsBusy v x → ⊥) × ((e : Place) × Member e (places v) × (e.node.slot ≡ x) × (((e.parent ≡ None) × (ys ≡ []) × (end ≡ None)) ⊎ ((p : ℕ) × (e.parent ≡ Some p) × Rises v p ys end)))
+Rises v x (y ∷ ys) end = (y ≡ x) × (IsBusy v x → ⊥) × Has (places v) x × ((e : Place) → Member e (places v) → e.node.slot ≡ x → ((e.parent ≡ None) × (ys ≡ []) × (end ≡ None)) ⊎ ((p : ℕ) × (e.parent ≡ Some p) × Rises v p ys end))
 
 abbrev pub one_of : Option ℕ → List ℕ
 one_of None = []
@@ -97,3 +98,10 @@ pub record Claims (v : MarksView) (h : Handle) (par : Option ℕ) (w : MarksView
   pub low : index < length v.claims.list
   pub entry : claiming.entry v.claims.list index ≡ h ∷ []
   pub becomes : w ≡ took v index h par
+
+-- two passes, and what they are together: what one owns the other lacks, and what one owns or has both together own or have
+pub record United (l r j : MarksView) : Type 0 where
+  pub left_alone : (o : OwnView) → Member o l.own → Lacks r o.node.slot
+  pub right_alone : (o : OwnView) → Member o r.own → Lacks l o.node.slot
+  pub owns : (h : Handle) → Owns l h ⊎ Owns r h → Owns j h
+  pub has : (x : ℕ) → Has (places l) x ⊎ Has (places r) x → Has (places j) x

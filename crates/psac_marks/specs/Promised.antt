@@ -1,16 +1,17 @@
 -- What the rule of marks gives, in plain sentences.
-use Rattle.std.specs.Prelude.{◌≡◌, ◌≢◌, ◌⊎◌, ℕ, ◌<◌, ◌≤◌, List, [], map, length, true, Some, None, sum_by}
+use Rattle.std.specs.Prelude.{◌≡◌, ◌≢◌, ◌⊎◌, ℕ, ◌<◌, ◌≤◌, List, [], map, drop, length, true, Some, None, sum_by}
 use mathlib.Core.Option.{some}
 use lib.ListN.{get_elem?}
 use Rattle.psac_ops.specs.declared.plain.Handle.{Handle}
 use Rattle.psac_slots.specs.Branches.{is_prefix}
-use Rattle.psac_slots.specs.Handles.{Member}
+use Rattle.psac_slots.specs.Handles.{Member, slot_times}
 use Rattle.psac_slots.specs.Promised as slots
 use Rattle.psac_slots.specs.Claiming.{times}
 use Rattle.psac_marks.specs.declared.view.OwnView.{OwnView}
 use Rattle.psac_marks.specs.declared.view.SharedView.{SharedView}
 use Rattle.psac_marks.specs.declared.view.MarksView.{MarksView}
 use Rattle.psac_marks.specs.Marked.{mark_at, parent_at, parent_word, claims_of, Place, places, Has, HasOwn}
+use Rattle.psac_marks.specs.Steps.{Lacks}
 use Rattle.psac_marks.specs.Passes.{IsKept}
 
 -- how many passes have the node's mark
@@ -20,6 +21,8 @@ holders x views = sum_by (λ (v : MarksView). times x v.marked) views
 pub record Promised (nodes : ℕ) (words : List ℕ) (views : List MarksView) : Type 0 where
   -- what the rule of claims gives
   pub claims : slots.Promised words (map claims_of views)
+  -- a node that is still to be drawn no pass has
+  pub free_lacked : (i : ℕ) (v : MarksView) (x : ℕ) → get_elem? views i ≡ some v → 0 < slot_times x (drop claims.counter claims.list) → Lacks v x
   -- what is out some pass has
   pub placed : (i : ℕ) (v : MarksView) (h : Handle) → get_elem? views i ≡ some v → Member h v.claims.held → (j : ℕ) × (u : MarksView) × (get_elem? views j ≡ some u) × Has (places u) h.slot
   -- a node that one pass owns is no other's, and shared with none

@@ -1,5 +1,5 @@
 -- What each step makes of a view, and what it tells.
-use Rattle.std.specs.Prelude.{◌≡◌, ◌≢◌, ◌⊎◌, ℕ, zero, suc, ◌+◌, ◌*◌, ◌<◌, ◌≤◌, List, [], ◌∷◌, ◌++◌, map, filter, length, drop, Bool, cond, not, ltb, ◌&&◌, ◌==◌, Option, Some, None}
+use Rattle.std.specs.Prelude.{◌≡◌, ◌≢◌, ◌⊎◌, ℕ, zero, suc, ◌+◌, ◌*◌, ◌<◌, List, [], ◌∷◌, ◌++◌, map, filter, Bool, cond, not, ltb, ◌&&◌, ◌==◌, Option, Some, None, IfSome}
 use mathlib.Core.Option.{some}
 use lib.ListN.{get_elem?}
 use Rattle.atomic_table.specs.Table.{Step, Me}
@@ -14,16 +14,16 @@ use Rattle.psac_marks.specs.declared.view.OwnView.{OwnView}
 use Rattle.psac_marks.specs.declared.view.SharedView.{SharedView}
 use Rattle.psac_marks.specs.declared.view.StateView.{StateView}
 use Rattle.psac_marks.specs.declared.view.MarksView.{MarksView}
-use Rattle.psac_marks.specs.Marked.{mark_at, parent_at, state_at, parent_word, free_word, Place, places, handle_of, ways, HasOwn}
+use Rattle.psac_marks.specs.Marked.{mark_at, parent_at, state_at, parent_word, free_word, Place, places, handle_of, ways, HasOwn, Meeting}
 
 abbrev pub Seat : Type 0
 Seat = Me (Unit {0}) MarksView
 
 abbrev pub first_view : ℕ → MarksView
-first_view nodes = record { claims = claiming.first_view nodes; own = []; shared = []; marked = []; busy = []; climb = None; dropped = []; states = []; asks = 0 }
+first_view nodes = record { claims = claiming.first_view nodes; own = []; shared = []; marked = []; busy = []; climb = None; dropped = []; states = []; asks = 0; met = None }
 
 abbrev pub spent : MarksView
-spent = record { claims = claiming.spent; own = []; shared = []; marked = []; busy = []; climb = None; dropped = []; states = []; asks = 0 }
+spent = record { claims = claiming.spent; own = []; shared = []; marked = []; busy = []; climb = None; dropped = []; states = []; asks = 0; met = None }
 
 -- the words of a free node: no mark, no parent, generation 1
 abbrev pub blank : ℕ → List ℕ
@@ -74,8 +74,8 @@ pub record Tells (v : MarksView) (i n : ℕ) : Type 0 where
   pub entry : (k : ℕ) → i ≡ claiming.place v.claims.count (v.claims.head + k) → (h : Handle) → get_elem? v.claims.list k ≡ some h → (n ≡ word_of h) × IsHandle h
   pub counter : (c : ℕ) → i ≡ 0 → v.claims.counter ≡ Some c → n ≡ c
   pub once : IsDistinct v.claims.held
-  -- the ring has room for all that is free and all that is out
-  pub room : (c : ℕ) → v.claims.counter ≡ Some c → length (drop c v.claims.list) + length v.claims.held ≤ v.claims.count
+  -- to a sole pass, each slot that isn't still to be drawn is its own
+  pub whole : claiming.IsSole v.claims → claiming.Accounted (claiming.rewound v.claims)
   pub held_is : map handle_of v.states ≡ v.claims.held
   pub low : (e : Place) → Member e (places v) → e.node.slot < v.claims.count
   pub parent : (e : Place) → Member e (places v) → i ≡ parent_at v.claims.count e.node.slot → n ≡ parent_word e.parent
@@ -87,6 +87,9 @@ pub record Tells (v : MarksView) (i n : ℕ) : Type 0 where
   pub free : (c x : ℕ) → v.claims.counter ≡ Some c → x < v.claims.count → slot_times x v.claims.held ≡ 0 → i ≡ state_at v.claims.count x → (g : ℕ) × (n ≡ 2 * g) × Lacks v x
   pub holds : (c : ℕ) → v.claims.counter ≡ Some c → Holds v
   pub closed : v.climb ≡ None → IsClosed v
+  -- what is dropped is the pass's own, and nothing that it shares is dropped
+  pub dropped : (x : ℕ) → 0 < times x v.dropped → HasOwn v.own x
+  pub kept : (e : SharedView) → Member e v.shared → times e.node.slot v.dropped ≡ 0
 
 pub record Loaded (s : Step (Unit {0})) (v : Seat) (n : ℕ) (w : Seat) : Type 0 where
   pub same : w ≡ v
@@ -158,9 +161,9 @@ dropping xs v = record v { dropped = v.dropped ++ xs }
 abbrev pub regained : ℕ → MarksView → MarksView
 regained n v = record v { claims = claiming.learned n v.claims }
 
--- no other pass has a node that this one shares
+-- no other pass has a node that this one shares, and none drew an index
 abbrev pub Regained : Step (Unit {0}) → Seat → ℕ → Seat → Type 0
-Regained s v n w = (w ≡ (regained n v.0, v.1)) × (v.0.shared ≡ [])
+Regained s v n w = (w ≡ (regained n v.0, v.1)) × (v.0.shared ≡ []) × claiming.DrewBelow n v.0.claims
 
 abbrev pub rewound : MarksView → MarksView
 rewound v = record v { claims = claiming.rewound v.claims }
@@ -216,6 +219,7 @@ module _ (shared to_right : ℕ → Bool) where
     marked = filter (λ x. not (goes_over v x)) v.marked;
     busy = filter (λ x. not (goes_over v x)) (v.busy ++ v.marked);
     dropped = filter (λ x. not (goes_over v x)) v.dropped;
+    met = None;
   }
 
   abbrev pub right_of : MarksView → MarksView
@@ -229,6 +233,7 @@ module _ (shared to_right : ℕ → Bool) where
     dropped = filter (goes_over v) v.dropped;
     states = [];
     asks = 0;
+    met = None;
   }
 
 abbrev pub joined : MarksView → MarksView → MarksView
@@ -241,4 +246,13 @@ joined v w = record v {
   dropped = v.dropped ++ w.dropped;
   states = v.states ++ w.states;
   asks = v.asks + w.asks;
+  met = None;
 }
+
+abbrev pub met : MarksView → MarksView → MarksView
+met v w = record (joined v w) { met = Some (record { left = v.own; right = w.own; shared_left = v.shared; shared_right = w.shared }) }
+
+pub record Settled (s : Step (Unit {0})) (v : Seat) (n : ℕ) (w : Seat) : Type 0 where
+  pub settled : w ≡ (record v.0 { met = None }, v.1)
+  pub meeting : IfSome v.0.met Meeting
+  pub tells : Tells v.0 s.word n

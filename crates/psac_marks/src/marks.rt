@@ -5,13 +5,14 @@ ghost use Rattle.psac_slots.specs.Handles.{Member, slot_times};
 ghost use Rattle.psac_slots.specs.Passes.{Pass};
 ghost use Rattle.psac_slots.specs.Claiming as claiming;
 ghost use Rattle.psac_slots.specs.Claiming.{IsSole, times};
-ghost use Rattle.psac_marks.specs.Marked.{Place, places, parent_word};
+ghost use Rattle.psac_marks.specs.Marked.{Place, places, parent_word, HasOwn};
+ghost use Rattle.psac_marks.specs.declared.view.SharedView.{SharedView};
 ghost use Rattle.psac_marks.specs.Steps.{first_view, drew, left_of, right_of, joined, asked, cleared, detached, dropping, regained, rewound, released, gave_all, Lacks, Holds, IsClosed};
-ghost use Rattle.psac_marks.specs.Passes.{Owns, Keeps, IsKept, IsDropped, IsBusy, Leads, Rises, MayRaise, RaisedOne, climbed, Bare, Childless, Parted, slot_of, Claims};
+ghost use Rattle.psac_marks.specs.Passes.{Owns, Keeps, IsKept, IsDropped, IsBusy, Leads, Rises, MayRaise, RaisedOne, climbed, Bare, Childless, Parted, slot_of, Claims, United};
 
 use crate::view::{
     Asks, Clears, Cut, Detaches, Draws, Gives, Hangs, Law, Loads, MarksSplit, MarksView, Raises,
-    Regains, Rewinds, States, Unites,
+    Regains, Rewinds, Settles, States, Unites,
 };
 use atomic_table::{Seat, Table};
 use psac_base::NoMemory;
@@ -238,7 +239,7 @@ impl Marks {
         self.table.shared.load::<Detaches>(&mut pass.seat, own);
     }
 
-    /// The pass's nodes are divided as D says.
+    /// The pass's nodes are divided as D says. What is dropped on a side is that side's own, and nothing shared is.
     pub fn fork<D: MarksSplit>(&self, pass: MarksPass) -> (MarksPass, MarksPass)
         requires table { pass.table ≡ self.now }
         requires short { length pass.knows.claims.branch < 62 }
@@ -247,6 +248,10 @@ impl Marks {
         ensures table { (result.0.table ≡ pass.table) × (result.1.table ≡ pass.table) }
         ensures left { result.0.knows ≡ left_of D.node_shared D.node_right pass.knows }
         ensures right { result.1.knows ≡ right_of D.node_shared D.node_right pass.knows }
+        ensures left_dropped { (x : ℕ) → IsDropped result.0.knows x → HasOwn result.0.knows.own x }
+        ensures right_dropped { (x : ℕ) → IsDropped result.1.knows x → HasOwn result.1.knows.own x }
+        ensures left_kept { (e : SharedView) → Member e result.0.knows.shared → IsKept result.0.knows e.node.slot }
+        ensures right_kept { (e : SharedView) → Member e result.1.knows.shared → IsKept result.1.knows e.node.slot }
     {
         let MarksPass {
             mut seat,
@@ -254,6 +259,8 @@ impl Marks {
             head,
             room,
         } = pass;
+        // it tells what is dropped
+        self.table.shared.load::<Loads>(&mut seat, 0);
         let other = self.table.shared.split_seat::<Cut<D>>(&mut seat);
         (
             MarksPass {
@@ -271,14 +278,17 @@ impl Marks {
         )
     }
 
-    /// What both sides had. A node that they shared from their branch on is the pass's alone again, and of own nodes
-    /// the marks are closed upwards.
+    /// What both sides had; what one of them owned the other didn't have. A node that they shared from their branch on is
+    /// the pass's alone again, and of own nodes the marks are closed upwards. What is dropped is own, and nothing shared is.
     pub fn join(&self, left: MarksPass, right: MarksPass) -> MarksPass
         requires table { (left.table ≡ self.now) × (right.table ≡ self.now) }
         requires sides { (b : List Bool) × (left.knows.claims.branch ≡ b ++ false ∷ []) × (right.knows.claims.branch ≡ b ++ true ∷ []) }
         ensures table { result.table ≡ left.table }
         ensures joined { result.knows ≡ joined left.knows right.knows }
+        ensures united { United left.knows right.knows result.knows }
         ensures closed { IsClosed result.knows }
+        ensures dropped { (x : ℕ) → IsDropped result.knows x → HasOwn result.knows.own x }
+        ensures kept { (e : SharedView) → Member e result.knows.shared → IsKept result.knows e.node.slot }
     {
         let MarksPass {
             mut seat,
@@ -288,7 +298,7 @@ impl Marks {
         } = left;
         let MarksPass { seat: other, .. } = right;
         self.table.shared.join_seat::<Unites>(&mut seat, other);
-        self.table.shared.load::<Loads>(&mut seat, 0);
+        self.table.shared.load::<Settles>(&mut seat, 0);
         MarksPass {
             seat,
             nodes,
@@ -297,12 +307,13 @@ impl Marks {
         }
     }
 
-    /// The pass, whose forks were all joined again, is sole: it knows the counter, and shares nothing.
+    /// The pass, whose forks were all joined again, is sole: it knows the counter, drew each index below it once, and
+    /// shares nothing.
     pub fn regain(&self, pass: MarksPass) -> MarksPass
         requires table { pass.table ≡ self.now }
         requires joined { pass.knows.claims.branch ≡ [] }
         ensures table { result.table ≡ pass.table }
-        ensures counter { (n : ℕ) × (result.knows ≡ regained n pass.knows) }
+        ensures counter { (n : ℕ) × (result.knows ≡ regained n pass.knows) × claiming.DrewBelow n pass.knows.claims }
         ensures alone { result.knows.shared ≡ [] }
     {
         let MarksPass {
@@ -320,14 +331,16 @@ impl Marks {
         }
     }
 
-    /// The counter is 0 again, and the free list is what was left of it, in its order.
+    /// The counter is 0 again, and the free list is what was left of it, in its order. Each slot is in the list or
+    /// held, and in one of them. Of own nodes the marks are closed upwards.
     pub fn rewind(&self, pass: &mut MarksPass)
         requires table { pass.old.table ≡ self.now }
         requires sole { IsSole pass.old.knows.claims }
         ensures table { pass.new.table ≡ pass.old.table }
         ensures rewound { pass.new.knows ≡ rewound pass.old.knows }
         ensures holds { Holds pass.new.knows }
-        ensures room { length pass.new.knows.claims.list + length pass.new.knows.claims.held ≤ pass.new.knows.claims.count }
+        ensures whole { claiming.Accounted pass.new.knows.claims }
+        ensures closed { IsClosed pass.new.knows }
     {
         let counter = self.table.shared.load::<Loads>(&mut pass.seat, 0);
         self.table.shared.store::<Rewinds>(&mut pass.seat, 0, 0);
@@ -347,6 +360,7 @@ impl Marks {
         requires next { node.generation < 4294967295 }
         ensures table { pass.new.table ≡ pass.old.table }
         ensures released { pass.new.knows ≡ released node (rewound pass.old.knows) }
+        ensures whole { claiming.Accounted pass.new.knows.claims }
     {
         self.rewind(pass);
         self.put_back(pass, node);
@@ -360,6 +374,7 @@ impl Marks {
         requires next { (h : Handle) → Member h pass.old.knows.claims.held → h.generation < 4294967295 }
         ensures table { pass.new.table ≡ pass.old.table }
         ensures gave { pass.new.knows ≡ gave_all (rewound pass.old.knows) }
+        ensures whole { claiming.Accounted pass.new.knows.claims }
     {
         self.rewind(pass);
         self.drop_all(pass);
@@ -424,10 +439,10 @@ impl Marks {
         requires below { slot < pass.old.knows.claims.count }
         requires children { Childless pass.old.knows slot }
         requires next { (h : Handle) → Member h pass.old.knows.claims.held → h.generation < 4294967295 }
-        requires room { length pass.old.knows.claims.list + length pass.old.knows.claims.held ≤ pass.old.knows.claims.count }
+        requires whole { claiming.Accounted pass.old.knows.claims }
         ensures table { pass.new.table ≡ pass.old.table }
         ensures gave { ((slot_times slot pass.old.knows.claims.held ≡ 0) × (pass.new.knows ≡ pass.old.knows)) ⊎ ((h : Handle) × Member h pass.old.knows.claims.held × (h.slot ≡ slot) × (pass.new.knows ≡ released h pass.old.knows)) }
-        ensures room { length pass.new.knows.claims.list + length pass.new.knows.claims.held ≤ pass.new.knows.claims.count }
+        ensures whole { claiming.Accounted pass.new.knows.claims }
     {
         if let Some(generation) = self.generation_out(pass, slot) {
             self.put_back(pass, Handle { slot, generation });
@@ -442,10 +457,10 @@ impl Marks {
         requires own { Owns pass.old.knows node }
         requires children { Childless pass.old.knows node.slot }
         requires next { node.generation < 4294967295 }
-        requires room { length pass.old.knows.claims.list + length pass.old.knows.claims.held ≤ pass.old.knows.claims.count }
+        requires whole { claiming.Accounted pass.old.knows.claims }
         ensures table { pass.new.table ≡ pass.old.table }
         ensures gave { pass.new.knows ≡ released node pass.old.knows }
-        ensures room { length pass.new.knows.claims.list + length pass.new.knows.claims.held ≤ pass.new.knows.claims.count }
+        ensures whole { claiming.Accounted pass.new.knows.claims }
     {
         let mark = pass.nodes as usize + 3 * node.slot as usize + 1;
         self.table.shared.store::<Clears>(&mut pass.seat, mark, 0);

@@ -25,6 +25,14 @@ pub struct StateView {
     pub word: u64,
 }
 
+/// What two passes had when they were joined.
+pub struct MetView {
+    pub left: LinkedList<OwnView>,
+    pub right: LinkedList<OwnView>,
+    pub shared_left: LinkedList<SharedView>,
+    pub shared_right: LinkedList<SharedView>,
+}
+
 /// What a pass knows. Contracts alone see it. Nodes are named by their slots where no handle stands.
 pub struct MarksView {
     pub claims: ClaimView,
@@ -41,6 +49,8 @@ pub struct MarksView {
     pub states: LinkedList<StateView>,
     /// How often it asked, it and what was joined into it.
     pub asks: u64,
+    /// The sides of a join, until a step later tells of them.
+    pub met: Option<MetView>,
 }
 
 /// How a fork divides the nodes that a pass has. It has no functions.
@@ -90,6 +100,15 @@ impl Play<(), MarksView> for Loads {
     ghost use Rattle.psac_marks.specs.Steps.{Loaded};
 
     ghost then = { Loaded };
+}
+
+/// A load after a join, which tells of both sides.
+pub struct Settles;
+
+impl Play<(), MarksView> for Settles {
+    ghost use Rattle.psac_marks.specs.Steps.{Settled};
+
+    ghost then = { Settled };
 }
 
 /// A store of an own node's parent.
@@ -190,9 +209,9 @@ impl<D: MarksSplit> Split<MarksView> for Cut<D> {
 pub struct Unites;
 
 impl Join<MarksView> for Unites {
-    ghost use Rattle.psac_marks.specs.Steps.{joined, spent};
+    ghost use Rattle.psac_marks.specs.Steps.{met, spent};
 
-    ghost both = { joined };
+    ghost both = { met };
 
     ghost spent = { spent };
 }

@@ -1,5 +1,5 @@
 -- Leaves and loads keep the rule, and what each step allows.
-use Rattle.std.proofs.Common.{◌≡◌, ◌≢◌, ℕ, zero, suc, ◌+◌, ◌%◌, ◌^◌, ◌<◌, ◌≤◌, List, [], ◌∷◌, map, length, set, drop, true, cond, refl, sym, ap, ◌∙◌, subst, ⊎_elim, arith, Option, Some, length-set}
+use Rattle.std.proofs.Common.{◌≡◌, ◌≢◌, ℕ, zero, suc, ◌+◌, ◌%◌, ◌^◌, ◌<◌, ◌≤◌, List, [], ◌∷◌, map, set, true, cond, refl, sym, ap, ◌∙◌, subst, ⊎_elim, arith, Option, Some, length-set}
 use Rattle.std.specs.Prelude.{sum_by, ◌==◌, slice_index}
 use Rattle.std.proofs.lemmas.List.Sums.{sum_by-cons}
 use Rattle.std.proofs.lemmas.List.{map-set, set-get_or}
@@ -8,12 +8,12 @@ use mathlib.Core.Option.{some, some-ne-none, some-injective, none as vacant}
 use lib.ListN.{get_elem?}
 use Rattle.atomic_table.specs.Table.{State, Allows, keeps, step}
 use Rattle.atomic_table.proofs.Lists.{at_map, set_here, set_else, set_again}
-use Rattle.psac_slots.specs.declared.view.ClaimView.{ClaimView}
 use Rattle.psac_ops.specs.declared.plain.Handle.{Handle}
 use Rattle.psac_slots.specs.Claiming as claiming
 use Rattle.psac_slots.specs.Handles as handles
 use Rattle.psac_slots.proofs.Acts.{sole_parts}
-use Rattle.psac_slots.proofs.Sums.{sum_set, sum_at, all_set}
+use Rattle.psac_slots.proofs.Rewinds as turns
+use Rattle.psac_slots.proofs.Sums.{sum_set, all_set}
 use Rattle.psac_readers.specs.declared.view.Stage.{Stage}
 use Rattle.psac_readers.specs.declared.view.Stage.TheVariants.{Claimed, UnderWay, In, Dead}
 use Rattle.psac_readers.specs.declared.view.LinkView.{LinkView}
@@ -22,7 +22,7 @@ use Rattle.psac_slots.specs.Handles.{Member}
 use Rattle.psac_readers.specs.Chained.{head_at, next_at, dead_at, node_at, Follows, in_set, is_dead, named, linked, alive, deads, Each, mods_of, claims_of, Staged, Knows, Placed, Tells, Readable}
 use Rattle.psac_readers.specs.Steps.{Has, Seat, drew, Drew, on_head, noded, Noded, swapped, Swapped, came, Came, die, left, Left, learned, front, IsSet, Began, Loaded, regained, Regained, rewound, Rewound}
 use Rattle.psac_readers.proofs.Links.{each_imp, each_map, sum_map, sum_same, sum_plus, sum_under, only_here, linked_named, alive_deads, die_deads, die_linked, knows_set, knows_die, placed_die, is_there, mods_learn, seen_learn, front_is, behind_is, next_word, node_word, chain_is}
-use Rattle.psac_readers.proofs.Rewinding.{rewinds_at, regains_at, nothing_shared}
+use Rattle.psac_readers.proofs.Rewinding.{rewinds_at, regains_at, nothing_shared, holds_all, dead_alone}
 use Rattle.psac_readers.proofs.Keeps.{same_rights, same_claims, single, inside, here_once, others_stay, draws_at, own_store, low, swaps_at}
 
 module _ (links mods : ℕ) (words : List ℕ) (views : List ReadersView) (h : Readable links mods words views) (id : ℕ) (v : ReadersView) (at : get_elem? views id ≡ some v) where
@@ -56,6 +56,7 @@ module _ (links mods : ℕ) (words : List ℕ) (views : List ReadersView) (h : R
         sets = record {
           next = h.sets.next;
           chain = h.sets.chain;
+          beyond = h.sets.beyond;
           long = (let a = h.sets.long in let b = length-set words i 1 in omega (arith, a, b));
           heads = λ m lt. let o = h.sets.heads m lt in (o.0, set_else words i (head_at links m) 1 (λ q. absurd (omega (arith, q, lt))) ∙ o.1, o.2);
           stored = λ x lt. let s = sum_set (λ (u : ReadersView). sum_by (deads x) u.links) views id v w at in let g = deads_grow x in ⊎_elim
@@ -75,6 +76,7 @@ module _ (links mods : ℕ) (words : List ℕ) (views : List ReadersView) (h : R
                 placed = each_map (Placed (mods_of v.walk) v.shared) (Placed (mods_of v.walk) v.shared) (die l) (λ k q. placed_die (mods_of v.walk) v.shared l k q) v.links t.placed;
                 whole = λ m has x. linked_stay m x ∙ t.whole m has x;
                 seen = t.seen;
+                gone = λ z. ap (map (die l)) (t.gone z);
               }
               (others_stay links mods words views h id v at i 1 (λ j u n e q. know u.links q));
         };
@@ -97,6 +99,7 @@ module _ (links mods : ℕ) (words : List ℕ) (views : List ReadersView) (h : R
         sets = record {
           next = h.sets.next;
           chain = h.sets.chain;
+          beyond = h.sets.beyond;
           long = h.sets.long;
           heads = h.sets.heads;
           stored = λ l lt. h.sets.stored l lt ∙ ap some (let s = sum_set (λ (u : ReadersView). sum_by (deads l) u.links) views id v w at in omega (arith, s));
@@ -109,6 +112,7 @@ module _ (links mods : ℕ) (words : List ℕ) (views : List ReadersView) (h : R
                 placed = subst (λ z. Each (Placed z v.shared) v.links) (sym (mods_learn m (h.sets.chain m) v.walk)) t.placed;
                 whole = λ y had x. t.whole y (subst (Member y) (mods_learn m (h.sets.chain m) v.walk) had) x;
                 seen = seen_learn h.sets.chain m v.walk t.seen;
+                gone = t.gone;
               }
               (λ j u n e. h.sets.tells j u e);
         };
@@ -250,11 +254,16 @@ module _ (links mods slots id : ℕ) (v : ReadersView) (hs : List (ℕ × Unit {
               let z : i ≡ claiming.place links (h.head + k) = is ∙ (λ j. claiming.place (c j) (f.head_is live j + k)) in
               (ap (slice_index s.words) z ∙ (is_there s.words (claiming.place links (h.head + k)) (handles.word_of x) (h.claims.stored k x y)).1, all_at h.list k x y h.claims.sized);
           counter = λ k is e. let p = sole_parts v.claims.counter h.counter k v.claims e f.sole in ap (slice_index s.words) is ∙ ((is_there s.words 0 h.counter h.claims.counter_is).1 ∙ sym p.0);
-          room = λ k e. let a = sum_at (λ (u : ClaimView). length u.held) (map claims_of s.views) id v.claims (at_map claims_of s.views id v at) in let o = h.claims.all in let b = f.count_is live in
-              let n : length (drop k v.claims.list) ≡ length (drop h.counter h.list) = λ j. length (drop ((sole_parts v.claims.counter h.counter k v.claims e f.sole).0 j) (f.list_is live j)) in omega (arith, a, o, b, n);
+          whole = λ knows. let p = sole_parts v.claims.counter h.counter knows.0 v.claims knows.1 f.sole in
+              turns.accounted links h.counter h.head h.list s.words (map claims_of s.views) h.claims id v.claims (at_map claims_of s.views id v at) p.1 p.2 (knows.1 ∙ ap Some p.0);
+          holds = λ knows. let p = sole_parts v.claims.counter h.counter knows.0 v.claims knows.1 f.sole in holds_all links mods s.words s.views h id v at p.1 p.2;
           dead = λ l is p.
               let z : i ≡ dead_at links mods l = is ∙ (λ j. dead_at (c j) (g j) l) in
               ap (slice_index s.words) z ∙ ((is_there s.words (dead_at links mods l) _ (h.sets.stored l (inside links mods s.words s.views h id v at l p))).1 ∙ dead_here links mods s.words s.views h id v at l p);
+          alone = λ knows l low is.
+              let p = sole_parts v.claims.counter h.counter knows.0 v.claims knows.1 f.sole in
+              let z : i ≡ dead_at links mods l = is ∙ (λ j. dead_at (c j) (g j) l) in
+              ap (slice_index s.words) z ∙ ((is_there s.words (dead_at links mods l) _ (h.sets.stored l (omega (arith, low, c)))).1 ∙ dead_alone links mods s.words s.views h id v at p.1 p.2 l);
           next = λ l m ls small is e p q.
               let z : i ≡ next_at links mods l = is ∙ (λ j. next_at (c j) (g j) l) in
               let o = chain_is h.sets.chain m v.walk ls t.seen e in
@@ -284,5 +293,9 @@ module _ (links mods slots id : ℕ) (v : ReadersView) (hs : List (ℕ × Unit {
         keeps,
         tt,
         same_words links mods s.words (set s.views id (regained n v)) 0 (subst (λ k. Readable links mods s.words (set s.views id (regained k v))) (sym e) (regains_at links mods s.words s.views h id v at live empty)),
-        (refl, nothing_shared links mods s.words s.views h id v at empty),
+        (
+          refl,
+          nothing_shared links mods s.words s.views h id v at empty,
+          subst (λ z. claiming.DrewBelow z v.claims) (sym e) (turns.drawn_all links h.counter h.head h.list s.words (map claims_of s.views) h.claims id v.claims (at_map claims_of s.views id v at) live empty),
+        ),
       )

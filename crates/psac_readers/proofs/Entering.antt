@@ -28,6 +28,7 @@ pub record Got (v : ReadersView) (n word : ℕ) (me : Seat) : Type 0 where
   pub view : me ≡ (with_links v n (new_link (handle_of word) ∷ v.links), [])
   pub entry : claiming.entry v.claims.list n ≡ handle_of word ∷ []
   pub low : word % 4294967296 < v.claims.count
+  pub new : sum_by (named (word % 4294967296)) v.links ≡ 0
 
 pub got : (slots i n word : ℕ) (v : ReadersView) (me1 me2 : Seat) → me1 ≡ (drew v n, []) → Loaded (step slots i 0 0 vacant) me1 word me2 → i ≡ claiming.place v.claims.count (v.claims.head + n) → n < length v.claims.list → Got v n word me2
 got slots i n word v me1 me2 e1 l is small =
@@ -40,6 +41,7 @@ got slots i n word v me1 me2 e1 l is small =
     record {
       view = l.same ∙ (e1 ∙ (λ j. (with_links v n (links j), [])));
       entry = entry;
+      new = let a = l.once k.link in omega (arith, a, there, one);
       low = let a = l.low k.link (omega (arith, there, one)) in let b = ap (λ (z : Seat). z.0.claims.count) e1 in omega (arith, a, b);
     }
 

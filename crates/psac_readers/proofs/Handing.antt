@@ -1,10 +1,11 @@
 -- The views on the way of a link that is given back.
-use Rattle.std.proofs.Common.{◌≡◌, ℕ, ◌+◌, ◌<◌, ◌≤◌, List, [], ◌∷◌, ◌++◌, map, length, Bool, true, false, cond, refl, ap, ◌∙◌, ⊎_elim, arith, length-append}
+use Rattle.std.proofs.Common.{◌≡◌, ℕ, ◌+◌, ◌<◌, List, [], ◌∷◌, ◌++◌, map, length, Bool, true, false, cond, refl, ap, ◌∙◌, ⊎_elim, arith, length-append}
 use Rattle.std.specs.Prelude.{sum_by, filter, not, ◌==◌}
 use Rattle.std.proofs.lemmas.List.Sums.{sum_by-cons}
+use Rattle.psac_ops.specs.declared.plain.Handle.{Handle}
 use Rattle.psac_slots.specs.Handles as handles
 use Rattle.psac_slots.specs.Claiming as claiming
-use Rattle.psac_slots.proofs.Removed.{removed_length}
+use Rattle.psac_slots.proofs.Carrying.{has_room, accounted_returned}
 use Rattle.psac_readers.specs.declared.view.Stage.{Stage}
 use Rattle.psac_readers.specs.declared.view.Stage.TheVariants.{Claimed, UnderWay, In, Dead}
 use Rattle.psac_readers.specs.declared.view.LinkView.{LinkView}
@@ -69,12 +70,9 @@ others_same l (k ∷ ks) = other_one l k (filter (other_link l) ks) (filter (oth
 pub freed_all : (l : ℕ) (v : ReadersView) → freed l (unlinked l (revived l v)) ≡ swept_one l v
 freed_all l v = λ i. record v { claims = claiming.returned (record { slot = l; generation = 1 }) v.claims; walk = map (lose l) v.walk; links = others_same l v.links i }
 
-pub room_after : (l : ℕ) (v : ReadersView) → 0 < handles.slot_times l v.claims.held → length v.claims.list + length v.claims.held ≤ v.claims.count
-    → (length v.claims.list < v.claims.count) × (length (swept_one l v).claims.list + length (swept_one l v).claims.held ≤ (swept_one l v).claims.count)
-room_after l v has room =
-    let a = removed_length l v.claims.held in
-    let b = length-append v.claims.list (record { slot = l; generation = 1 } ∷ []) in
-    (omega (arith, a, has, room), omega (arith, a, b, has, room))
+-- there is room for the link, and each link is free or held from then on
+pub room_after : (l : ℕ) (v : ReadersView) → 0 < handles.slot_times l v.claims.held → claiming.Accounted v.claims → (length v.claims.list < v.claims.count) × claiming.Accounted (swept_one l v).claims
+room_after l v has a = let h : Handle = record { slot = l; generation = 1 } in (has_room v.claims a h has, accounted_returned v.claims a h has)
 
 pub carries_swept : (links mods head room words l : ℕ) (v : ReadersView) → Carries links mods head room words v → length v.claims.list < v.claims.count → Carries links mods head (room + 1) words (swept_one l v)
 carries_swept links mods head room words l v c less =

@@ -1,5 +1,5 @@
 -- Each step of an enter keeps the rule.
-use Rattle.std.proofs.Common.{◌≡◌, ◌≢◌, ◌⊎◌, ℕ, zero, suc, ◌+◌, ◌%◌, ◌^◌, ◌<◌, ◌≤◌, List, [], ◌∷◌, map, set, Bool, true, false, true≢false, cond, ltb, refl, sym, ap, ◌∙◌, subst, inl, inr, ⊎_elim, arith, Option, Some, None, length-set}
+use Rattle.std.proofs.Common.{◌≡◌, ◌≢◌, ◌⊎◌, ℕ, zero, suc, ◌+◌, ◌%◌, ◌^◌, ◌<◌, ◌≤◌, List, [], ◌∷◌, map, length, set, Bool, true, false, true≢false, cond, ltb, refl, sym, ap, ◌∙◌, subst, inl, inr, ⊎_elim, arith, Option, Some, None, length-set}
 use Rattle.std.specs.Prelude.{sum_by, ◌==◌, slice_index}
 use Rattle.std.proofs.lemmas.List.Sums.{sum_by-cons, sum_by-append}
 use Rattle.std.proofs.lemmas.List.{map-set}
@@ -68,7 +68,7 @@ module _ (links mods : ℕ) (words : List ℕ) (views : List ReadersView) (h : R
   -- what others know stays, where one word changes that none of them knows
   pub others_stay : (i x : ℕ) → ((j : ℕ) (u : ReadersView) → j ≢ id → get_elem? views j ≡ some u → Each (Knows links mods words h.sets.next) u.links → Each (Knows links mods (set words i x) h.sets.next) u.links)
       → (j : ℕ) (u : ReadersView) → j ≢ id → get_elem? views j ≡ some u → Tells links mods (set words i x) h.sets.next h.sets.chain u
-  others_stay i x f j u n e = let t = h.sets.tells j u e in record { mods_is = t.mods_is; known = f j u n e t.known; placed = t.placed; whole = t.whole; seen = t.seen }
+  others_stay i x f j u n e = let t = h.sets.tells j u e in record { mods_is = t.mods_is; known = f j u n e t.known; placed = t.placed; whole = t.whole; seen = t.seen; gone = t.gone }
 
   -- a claim
   pub draws_at : v.claims.live ≡ true → v.claims.over ≡ 0 → Readable links mods (set words 0 ((h.counter + 1) % 2 ^ 64)) (set views id (drew v h.counter))
@@ -89,6 +89,7 @@ module _ (links mods : ℕ) (words : List ℕ) (views : List ReadersView) (h : R
         sets = record {
           next = h.sets.next;
           chain = h.sets.chain;
+          beyond = h.sets.beyond;
           long = (let a = h.sets.long in let b = length-set words 0 x in omega (arith, a, b));
           heads = λ m lt. let o = h.sets.heads m lt in (o.0, set_else words 0 (head_at links m) x (λ q. absurd (omega (arith, q))) ∙ o.1, o.2);
           stored = λ l lt. let s = sum_set (λ (u : ReadersView). sum_by (deads l) u.links) views id v w at in let a = sum_by-append (deads l) (map new_link es) v.links in let b = new_deads l es in
@@ -104,6 +105,7 @@ module _ (links mods : ℕ) (words : List ℕ) (views : List ReadersView) (h : R
                 placed = each_append (Placed (mods_of v.walk) v.shared) (map new_link es) v.links (fresh_placed (mods_of v.walk) v.shared es) t.placed;
                 whole = λ m has l. let a = sum_by-append (linked m l) (map new_link es) v.links in let b = new_linked m l es in let o = t.whole m has l in omega (arith, a, b, o);
                 seen = t.seen;
+                gone = λ z. absurd (true≢false (sym live ∙ z));
               }
               (others_stay 0 x (λ j u n e p. know u.links p));
         };
@@ -166,6 +168,7 @@ module _ (links mods : ℕ) (words : List ℕ) (views : List ReadersView) (h : R
           sets = record {
             next = h.sets.next;
             chain = h.sets.chain;
+            beyond = h.sets.beyond;
             long = (let a = h.sets.long in let b = length-set words i x in omega (arith, a, b));
             heads = λ m lt. let o = h.sets.heads m lt in (o.0, set_else words i (head_at links m) x (λ q. absurd (omega (arith, q, far, lt))) ∙ o.1, o.2);
             stored = λ l lt. set_else words i (dead_at links mods l) x (λ q. no_dead l (sym q)) ∙ (h.sets.stored l lt ∙ ap some (sym (sum_stays (deads l) (same_deads l))));
@@ -179,6 +182,7 @@ module _ (links mods : ℕ) (words : List ℕ) (views : List ReadersView) (h : R
                       ((λ e. subst (λ o. Member o (mods_of v.walk) ⊎ ((f : SharedView) × Member f v.shared × (f.of ≡ o))) (sym same_of) (placed.0 (sym same_in ∙ e))), placed.1);
                   whole = λ m has l. let a = cons_v (linked m l) in let b = cons_w (linked m l) in let c = same_linked m l in let o = t.whole m (subst (λ z. Member m (mods_of z)) ew has) l in omega (arith, a, b, c, o);
                   seen = subst (Each (Seen h.sets.chain)) (sym ew) t.seen;
+                  gone = λ z. let e = ap length (sym lv ∙ t.gone (ap (λ (c : ClaimView). c.live) (sym cw) ∙ z)) in absurd (omega (arith, e));
                 }
                 (others_stay i x (λ j u n e p. else_known u.links (elsewhere k.link there j u n e) p));
           };
@@ -235,6 +239,7 @@ module _ (links mods : ℕ) (words : List ℕ) (views : List ReadersView) (h : R
         sets = record {
           next = next';
           chain = chain';
+          beyond = λ y far. chain_y y (λ e. absurd (omega (arith, far, small, e))) ∙ h.sets.beyond y far;
           long = (let a = h.sets.long in let b = length-set words i (suc l) in omega (arith, a, b));
           heads = λ y lt. ⊎_elim
               (λ (e : y ≡ m). subst (λ z. (x : ℕ) × (get_elem? (set words i (suc l)) (head_at links z) ≡ some x) × Follows next' x (chain' z)) (sym e) (
@@ -261,6 +266,7 @@ module _ (links mods : ℕ) (words : List ℕ) (views : List ReadersView) (h : R
                 whole = λ y had x. let a = vs (linked y x) in let b = ws (linked y x) in let c = was y x in let o = t.whole y (subst (Member y) (mods_forget m v.walk) had) x in
                     let d = grown m l y x k' (λ ey ex. ap {B = ℕ} (λ (p : ℕ × ℕ). linked p.0 p.1 k') (λ i. (ey i, ex i)) ∙ now_m) (now_x y x) (now_y y x) chain in omega (arith, a, b, c, o, d);
                 seen = seen_forget chain chain' m chain_y v.walk t.seen;
+                gone = λ z. let e = ap length (sym lv ∙ t.gone z) in absurd (omega (arith, e));
               }
               (λ j u q e. let o = h.sets.tells j u e in record {
                 mods_is = o.mods_is;
@@ -268,6 +274,7 @@ module _ (links mods : ℕ) (words : List ℕ) (views : List ReadersView) (h : R
                 placed = o.placed;
                 whole = λ y had x. let z = not_there links mods words views h id v at m has j u q e y had in o.whole y had x ∙ ap (times x) (sym (chain_y y z));
                 seen = seen_else chain chain' m chain_y u.walk (λ y had. not_there links mods words views h id v at m has j u q e y had) o.seen;
+                gone = o.gone;
               });
         };
       }

@@ -10,7 +10,7 @@ use Rattle.psac_slots.specs.Handles as handles
 use Rattle.psac_slots.specs.Handles.{Member}
 use Rattle.psac_slots.proofs.Kept as slots
 use Rattle.psac_slots.proofs.Removed.{at_most_once}
-use Rattle.psac_slots.proofs.Sums.{sum_two}
+use Rattle.psac_slots.proofs.Sums.{sum_at, sum_two}
 use Rattle.psac_readers.specs.declared.view.Stage.{Stage}
 use Rattle.psac_readers.specs.declared.view.Stage.TheVariants.{Claimed, UnderWay, In, Dead}
 use Rattle.psac_readers.specs.declared.view.LinkView.{LinkView}
@@ -38,6 +38,12 @@ promised links mods words views h =
     let a = sum_under (λ (u : ReadersView). sum_by (g l) u.links) (λ (u : ReadersView). sum_by (named l) u.links) (λ u. sum_under (g l) (named l) (less l) u.links) views in let b = all_named l in omega (arith, a, b) in
     record {
       claims = slots.promised links h.counter h.head h.list words (map claims_of views) h.claims;
+      free_unlinked = λ i v l e f.
+          let a = sum_at (λ (u : ReadersView). sum_by (named l) u.links) views i v e in
+          let b = h.sets.owed l in
+          let d = sum_map claims_of (λ (c : ClaimView). handles.slot_times l c.held) views in
+          let n = slots.unheld words (map claims_of views) (slots.promised links h.counter h.head h.list words (map claims_of views) h.claims) l f in
+          omega (arith, a, b, d, n);
       next = h.sets.next;
       chain = h.sets.chain;
       stored_next = λ i v k e m s. settled_next links mods words h.sets.next k.link k.stage s (each_member _ k v.links (h.sets.tells i v e).known m).0;

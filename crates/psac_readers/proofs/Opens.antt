@@ -1,5 +1,5 @@
 -- The first words and the first view meet the rule.
-use Rattle.std.proofs.Common.{◌≡◌, ◌⊎◌, ℕ, zero, suc, ◌+◌, ◌*◌, ◌<◌, ◌≤◌, List, [], ◌∷◌, ◌++◌, map, length, refl, sym, ap, ◌∙◌, subst, inl, inr, ⊎_elim, arith, Option, Some, length-append}
+use Rattle.std.proofs.Common.{◌≡◌, ◌⊎◌, ℕ, zero, suc, ◌+◌, ◌*◌, ◌<◌, ◌≤◌, List, [], ◌∷◌, ◌++◌, map, length, true, false, true≢false, refl, sym, ap, ◌∙◌, subst, inl, inr, ⊎_elim, arith, Option, Some, length-append}
 use Rattle.std.proofs.lemmas.List.{length-map}
 use mathlib.Core.Option.{some, some-ne-none, some-injective}
 use lib.ListN.{get_elem?}
@@ -60,12 +60,13 @@ opens links mods fits =
       sets = record {
         next = λ _. 0;
         chain = λ _. [];
+        beyond = λ _ _. refl;
         long = (let a = length_words links n in omega (arith, a));
         heads = λ m lt. (0, zero_word links n m (omega (arith, lt)), refl);
         stored = λ l lt. let e : dead_at links mods l ≡ suc (links + (mods + 3 * l + 1)) = omega arith in ap (λ i. get_elem? (first_words links n) i) e ∙ zero_word links n (mods + 3 * l + 1) (omega (arith, lt));
         counted = λ m l. refl;
         owed = λ l. refl;
-        tells = λ id u e. subst (Tells links mods (first_words links n) (λ _. 0) (λ _. [])) (only v id u e).1 record { mods_is = λ _. refl; known = tt; placed = tt; whole = λ m h l. refl; seen = seen_first mods };
+        tells = λ id u e. subst (Tells links mods (first_words links n) (λ _. 0) (λ _. [])) (only v id u e).1 record { mods_is = λ _. refl; known = tt; placed = tt; whole = λ m h l. refl; seen = seen_first mods; gone = λ (e : true ≡ false). absurd (true≢false e) };
       };
     }
   where

@@ -5,19 +5,20 @@ use Rattle.std.proofs.lemmas.List.{map-set}
 use mathlib.Core.Option.{some}
 use lib.ListN.{get_elem?}
 use Rattle.atomic_table.proofs.Lists.{at_map, set_else, set_again}
+use Rattle.psac_slots.specs.declared.view.ClaimView.{ClaimView}
 use Rattle.psac_slots.specs.Claiming as claiming
 use Rattle.psac_slots.specs.Handles as handles
 use Rattle.psac_slots.proofs.Rewinds as turns
-use Rattle.psac_slots.proofs.Sums.{sum_set, all_set}
+use Rattle.psac_slots.proofs.Sums.{sum_set, sum_at, sum_none, all_set}
 use Rattle.psac_readers.specs.declared.view.LinkView.{LinkView}
 use Rattle.psac_readers.specs.declared.view.ReadersView.{ReadersView}
 use Rattle.psac_ops.specs.declared.plain.Handle.{Handle}
 use Rattle.psac_slots.specs.Handles.{Member}
 use Rattle.psac_readers.specs.declared.view.WalkView.{WalkView}
 use Rattle.psac_readers.specs.declared.view.SharedView.{SharedView}
-use Rattle.psac_readers.specs.Chained.{head_at, dead_at, named, linked, deads, Each, mods_of, claims_of, rights_of, Knows, Placed, Seen, Tells, Readable}
-use Rattle.psac_readers.specs.Steps.{rewound, regained}
-use Rattle.psac_readers.proofs.Links.{each_imp, knows_set}
+use Rattle.psac_readers.specs.Chained.{head_at, dead_at, named, linked, deads, times, Each, mods_of, claims_of, rights_of, Knows, Placed, Seen, Tells, Readable}
+use Rattle.psac_readers.specs.Steps.{spent, rewound, regained, Holds}
+use Rattle.psac_readers.proofs.Links.{each_imp, knows_set, sum_map}
 use Rattle.psac_readers.proofs.Keeps.{same_rights, others_stay}
 
 none_in : {A : Type 0} (l : List A) → ((x : A) → Member x l → ⊥) → l ≡ []
@@ -28,6 +29,36 @@ module _ (links mods : ℕ) (words : List ℕ) (views : List ReadersView) (h : R
   -- a pass with the empty branch shares nothing
   pub nothing_shared : v.claims.branch ≡ [] → v.shared ≡ []
   nothing_shared empty = none_in v.shared (λ e m. let l = ((h.rights.own id (rights_of v) (at_map rights_of views id v at)).labels e m).1 in let z = ap length empty in omega (arith, l, z))
+
+  -- what a pass has in a set beyond those of the table
+  none_beyond : (m l : ℕ) → mods ≤ m → sum_by (linked m l) v.links ≡ 0
+  none_beyond m l far = let a = sum_at (λ (u : ReadersView). sum_by (linked m l) u.links) views id v at in let o = h.sets.counted m l in let z = ap (times l) (h.sets.beyond m far) in omega (arith, a, o, z)
+
+  -- a sole pass has all links that are held
+  pub holds_all : v.claims.live ≡ true → v.claims.branch ≡ [] → Holds v
+  holds_all live empty = record {
+    held = λ l.
+        let f : ReadersView → ℕ = λ u. sum_by (named l) u.links in
+        let mine = at_map claims_of views id v at in
+        let a = sum_set f views id v spent at in
+        let b = sum_none f (set views id spent) (all_set (λ _ (u : ReadersView). f u ≡ 0) views id spent refl
+        (λ j u n e. ap (sum_by (named l)) ((h.sets.tells j u e).gone (turns.alone links h.counter h.head h.list words (map claims_of views) h.claims id v.claims mine live empty j u.claims n (at_map claims_of views j u e))))) in
+        let c = turns.alone_sum links h.counter h.head h.list words (map claims_of views) h.claims id v.claims mine live empty (λ (u : ClaimView). handles.slot_times l u.held) refl (λ u _ d. ap (handles.slot_times l) d) in
+        let d = sum_map claims_of (λ (u : ClaimView). handles.slot_times l u.held) views in
+        let o = h.sets.owed l in
+        omega (arith, a, b, c, d, o);
+    inside = λ m l far. none_beyond m l (let g = (h.sets.tells id v at).mods_is live in omega (arith, g, far));
+  }
+
+  -- a link is dead where a sole pass has it as dead
+  pub dead_alone : v.claims.live ≡ true → v.claims.branch ≡ [] → (l : ℕ) → sum_by (λ (u : ReadersView). sum_by (deads l) u.links) views ≡ sum_by (deads l) v.links
+  dead_alone live empty l =
+      let f : ReadersView → ℕ = λ u. sum_by (deads l) u.links in
+      let mine = at_map claims_of views id v at in
+      let a = sum_set f views id v spent at in
+      let b = sum_none f (set views id spent) (all_set (λ _ (u : ReadersView). f u ≡ 0) views id spent refl
+      (λ j u n e. ap (sum_by (deads l)) ((h.sets.tells j u e).gone (turns.alone links h.counter h.head h.list words (map claims_of views) h.claims id v.claims mine live empty j u.claims n (at_map claims_of views j u e))))) in
+      omega (arith, a, b)
 
   -- one view changes in its claims alone, which hold the same, and one of the words below the sets
   low_store : (w : ReadersView) (i x d front : ℕ) (list : List Handle) → i ≤ links → w.mods ≡ v.mods → w.walk ≡ v.walk → w.shared ≡ v.shared → w.links ≡ v.links → w.claims.live ≡ v.claims.live → w.claims.branch ≡ v.claims.branch → w.claims.held ≡ v.claims.held
@@ -47,6 +78,7 @@ module _ (links mods : ℕ) (words : List ℕ) (views : List ReadersView) (h : R
         sets = record {
           next = h.sets.next;
           chain = h.sets.chain;
+          beyond = h.sets.beyond;
           long = (let a = h.sets.long in let b = length-set words i x in omega (arith, a, b));
           heads = λ m lt. let o = h.sets.heads m lt in (o.0, set_else words i (head_at links m) x (λ q. absurd (omega (arith, q, low))) ∙ o.1, o.2);
           stored = λ l lt. set_else words i (dead_at links mods l) x (λ q. absurd (omega (arith, q, low))) ∙ (h.sets.stored l lt ∙ ap some (sym (total (deads l))));
@@ -59,6 +91,7 @@ module _ (links mods : ℕ) (words : List ℕ) (views : List ReadersView) (h : R
                 placed = subst (λ (z : List WalkView × List SharedView × List LinkView). Each (Placed (mods_of z.0) z.1) z.2) (λ j. (sym ew j, sym es j, sym el j)) t.placed;
                 whole = λ m has l. ap (sum_by (linked m l)) el ∙ t.whole m (subst (λ z. Member m (mods_of z)) ew has) l;
                 seen = subst (Each (Seen h.sets.chain)) (sym ew) t.seen;
+                gone = λ z. el ∙ t.gone (sym ev ∙ z);
               }
               (others_stay links mods words views h id v at i x (λ j u n e p. know u.links p));
         };

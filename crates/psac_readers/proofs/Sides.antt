@@ -1,5 +1,5 @@
 -- Splits and joins keep the rule.
-use Rattle.std.proofs.Common.{◌≡◌, ◌≢◌, ◌⊎◌, ℕ, zero, suc, ◌+◌, ◌<◌, List, [], ◌∷◌, ◌++◌, map, length, set, Bool, true, false, true≢false, cond, refl, sym, ap, ◌∙◌, subst, inl, inr, ⊎_elim, arith, Option, Some, None, length-append}
+use Rattle.std.proofs.Common.{◌≡◌, ◌≢◌, ◌⊎◌, ℕ, zero, suc, ◌+◌, ◌<◌, List, [], ◌∷◌, ◌++◌, map, length, set, Bool, true, false, true≢false, cond, refl, sym, ap, ◌∙◌, subst, inl, inr, ⊎_elim, arith, Option, Some, None}
 use Rattle.std.specs.Prelude.{sum_by, filter, not, ◌&&◌, ◌==◌}
 use Rattle.std.proofs.lemmas.List.Sums.{sum_by-append, sum_by_push}
 use Rattle.std.proofs.lemmas.List.{map-append, map-set}
@@ -10,10 +10,10 @@ use Rattle.atomic_table.proofs.Lists.{at_map, set_else}
 use Rattle.psac_ops.specs.declared.plain.Handle.{Handle}
 use Rattle.psac_slots.specs.Claiming as claiming
 use Rattle.psac_slots.specs.Handles as handles
-use Rattle.psac_slots.specs.Branches.{is_prefix, stem}
+use Rattle.psac_slots.specs.Branches.{stem}
 use Rattle.psac_slots.proofs.Keeps as laws
 use Rattle.psac_slots.proofs.Sums.{sum_set, sum_two, all_set}
-use Rattle.psac_slots.proofs.Turns.{prefix_long, stem_push}
+use Rattle.psac_slots.proofs.Turns.{stem_push}
 use Rattle.psac_readers.specs.declared.view.Stage.{Stage}
 use Rattle.psac_readers.specs.declared.view.Stage.TheVariants.{Claimed, UnderWay, In, Dead}
 use Rattle.psac_readers.specs.declared.view.LinkView.{LinkView}
@@ -25,7 +25,7 @@ use Rattle.psac_slots.specs.Divided.{Rights, Divided, stays, goes, above, comes_
 use Rattle.psac_readers.specs.Chained.{in_set, named, linked, deads, Each, mods_of, claims_of, rights_of, Knows, Placed, Seen, Tells, Readable, labelled, ways}
 use Rattle.psac_readers.specs.Steps.{right_link, now_shared, left_of, right_of, joined, unknown, spent}
 use Rattle.psac_slots.proofs.Pairs.{member_left, member_right, filter_member, map_member, one_after}
-use Rattle.psac_slots.proofs.Dividing.{Strangers, on_left, on_right, divides, unites, alone_cases, none_there, prefix_cut}
+use Rattle.psac_slots.proofs.Dividing.{Strangers, on_left, on_right, divides, unites, alone_cases, none_there, shared_same}
 use Rattle.psac_readers.proofs.Links.{each_imp, each_append, each_filter, each_pass, each_zero, sum_split, sum_pass, sum_only, mods_filter}
 
 is_off : (b : Bool) → not b ≡ true → b ≡ false
@@ -133,6 +133,7 @@ module _ (shared to_right link_right : ℕ → Bool) where
         sets = record {
           next = h.sets.next;
           chain = h.sets.chain;
+          beyond = h.sets.beyond;
           long = h.sets.long;
           heads = h.sets.heads;
           stored = λ x lt. h.sets.stored x lt ∙ ap some (sym (total (deads x)));
@@ -149,6 +150,7 @@ module _ (shared to_right link_right : ℕ → Bool) where
                 whole = λ m has x. let q = on_left ways shared to_right (rights_of v) m (subst (Member m) wl has) in
                     let b = both (linked m x) in let z = sum_pass (linked m x) goes_right (λ k on. gone m x k q.1 q.2 true on (λ e. true≢false e)) v.links in let o = t.whole m q.0 x in omega (arith, b, z, o);
                 seen = each_filter (Seen h.sets.chain) (λ (e : WalkView). stays ways shared to_right e.of) v.walk t.seen;
+                gone = λ z. absurd (true≢false (sym live ∙ z));
               }
               record {
                 mods_is = λ _. t.mods_is live;
@@ -159,6 +161,7 @@ module _ (shared to_right link_right : ℕ → Bool) where
                 whole = λ m has x. let q = on_right ways shared to_right (rights_of v) m (subst (Member m) wr has) in
                     let b = both (linked m x) in let z = sum_pass (linked m x) (λ k. not (goes_right k)) (λ k on. gone m x k q.1 q.2 false (is_off (goes_right k) on) (λ e. true≢false (sym e))) v.links in let o = t.whole m q.0 x in omega (arith, b, z, o);
                 seen = each_filter (Seen h.sets.chain) (λ (e : WalkView). goes ways shared to_right e.of) v.walk t.seen;
+                gone = λ (z : true ≡ false). absurd (true≢false z);
               };
         };
       }
@@ -219,11 +222,7 @@ module _ (links mods : ℕ) (words : List ℕ) (views : List ReadersView) (h : R
       (λ (p : above ways (stem v.claims.branch) e ≡ false). inl (member_right k.of (mods_of v.walk ++ mods_of w.walk) (map (λ (f : SharedView). f.of) (filter (comes_back ways (stem v.claims.branch)) v.shared))
       (subst (λ z. Member z (map (λ (f : SharedView). f.of) (filter (comes_back ways (stem v.claims.branch)) v.shared))) of (map_member (λ (f : SharedView). f.of) e (filter (comes_back ways (stem v.claims.branch)) v.shared) (filter_member (comes_back ways (stem v.claims.branch)) e v.shared had (is_on (above ways (stem v.claims.branch) e) p))))))
       (cases_Bool (above ways (stem v.claims.branch) e)) in
-      let in_left : (e : SharedView) → Member e w.shared → Member e v.shared = λ e had.
-      let q = (h.rights.own other (rights_of w) aw).labels e had in
-      let l = ap length rb in let l2 = length-append b (true ∷ []) in let l3 = q.1 in
-      let p = prefix_cut e.label b true (ap (λ c. is_prefix e.label c) (sym rb) ∙ q.0) (omega (arith, l, l2, l3)) in
-      (h.rights.beside other id (rights_of w) (rights_of v) aw av two).below e had live (ap (λ c. is_prefix e.label c) lb ∙ prefix_long e.label b false p) in
+      let in_left : (e : SharedView) → Member e w.shared → Member e v.shared = shared_same ways (map rights_of views) id other (rights_of v) (rights_of w) b h.rights av aw two live alive lb rb in
       record {
         counter = h.counter;
         head = h.head;
@@ -237,6 +236,7 @@ module _ (links mods : ℕ) (words : List ℕ) (views : List ReadersView) (h : R
         sets = record {
           next = h.sets.next;
           chain = h.sets.chain;
+          beyond = h.sets.beyond;
           long = h.sets.long;
           heads = h.sets.heads;
           stored = λ x lt. h.sets.stored x lt ∙ ap some (sym (total (deads x)));
@@ -245,7 +245,7 @@ module _ (links mods : ℕ) (words : List ℕ) (views : List ReadersView) (h : R
               let c = sum_set (λ (u : ReadersView). handles.slot_times x u.claims.held) views id v J at in let d = sum_set (λ (u : ReadersView). handles.slot_times x u.claims.held) mid other w spent there in
               let e = sum_by-append (λ (y : Handle). cond (y.slot == x) 1 0) v.claims.held w.claims.held in omega (arith, a, o, c, d, e);
           tells = all_set (λ _ u. Tells links mods words h.sets.next h.sets.chain u) mid other spent
-              record { mods_is = λ (e : false ≡ true). absurd (true≢false (sym e)); known = tt; placed = tt; whole = λ m e x. absurd e; seen = tt }
+              record { mods_is = λ (e : false ≡ true). absurd (true≢false (sym e)); known = tt; placed = tt; whole = λ m e x. absurd e; seen = tt; gone = λ _. refl }
               (λ j u n e. all_set (λ _ y. Tells links mods words h.sets.next h.sets.chain y) views id J
               record {
                 mods_is = t.mods_is;
@@ -276,6 +276,7 @@ module _ (links mods : ℕ) (words : List ℕ) (views : List ReadersView) (h : R
                     y)
                     (cases m had);
                 seen = each_append (Seen h.sets.chain) (v.walk ++ w.walk) (map unknown (filter (comes_back ways (stem v.claims.branch)) v.shared)) (each_append (Seen h.sets.chain) v.walk w.walk t.seen s.seen) (seen_unknown h.sets.chain (filter (comes_back ways (stem v.claims.branch)) v.shared));
+                gone = λ z. absurd (true≢false (sym live ∙ z));
               }
               (λ i y o d. h.sets.tells i y d) j u e);
         };

@@ -1,19 +1,25 @@
 -- A walk that takes links off.
-use Rattle.std.proofs.Common.{◌≡◌, ◌≢◌, ◌⊎◌, ℕ, suc, ◌+◌, ◌-◌, ◌<◌, ◌≤◌, List, [], ◌∷◌, ◌++◌, map, length, Bool, true, false, true≢false, cond, refl, sym, ap, ◌∙◌, subst, ⊎_elim, arith, Option, Some, None, append_assoc, append-nil}
+use Rattle.std.proofs.Common.{◌≡◌, ◌≢◌, ◌⊎◌, ℕ, suc, ◌+◌, ◌-◌, ◌<◌, ◌≤◌, List, [], ◌∷◌, ◌++◌, map, length, Bool, true, false, true≢false, cond, refl, sym, ap, ◌∙◌, subst, inl, ⊎_elim, arith, Option, Some, None, append_assoc, append-nil}
 use Rattle.std.specs.Prelude.{sum_by, filter, ◌==◌}
 use Rattle.std.proofs.lemmas.Bool.{eq-eqb, eqb-true, ne_eqb, cases_eq, cases_lt}
-use Rattle.psac_slots.specs.Handles.{Member}
+use Rattle.std.proofs.lemmas.List.Sums.{sum_by-cons}
+use Rattle.psac_ops.specs.declared.plain.Handle.{Handle}
+use Rattle.psac_slots.specs.declared.view.ClaimView.{ClaimView}
+use Rattle.psac_slots.specs.Handles.{Member, slot_times, removed}
+use Rattle.psac_slots.proofs.Removed.{member_times, removed_gone, removed_else}
+use Rattle.psac_readers.specs.declared.view.Stage.{Stage}
+use Rattle.psac_readers.specs.declared.view.Stage.TheVariants.{Claimed, UnderWay, In, Dead}
 use Rattle.psac_readers.specs.declared.view.LinkView.{LinkView}
 use Rattle.psac_readers.specs.declared.view.WalkView.{WalkView}
 use Rattle.psac_readers.specs.declared.view.ReadersView.{ReadersView}
-use Rattle.psac_readers.specs.Chained.{head_at, next_at, is_live, named, linked, alive, deads, times, mods_of}
-use Rattle.psac_readers.specs.Steps.{chain_of, learn, learned, front, behind, without, known_without, lose, other_link, swept_one, swept, IsSet}
+use Rattle.psac_readers.specs.Chained.{head_at, next_at, in_set, is_live, named, linked, alive, deads, times, Each, mods_of}
+use Rattle.psac_readers.specs.Steps.{chain_of, learn, learned, front, behind, without, known_without, lose, other_link, swept_one, swept, IsSet, is_settled, Fine, Holds}
 use Rattle.psac_readers.specs.Passes.{from_word, or_empty, Walks, Placing}
 use Rattle.psac_readers.specs.Swept.{TakenOff, Going, remaining, AllGiven}
 use Rattle.psac_slots.specs.Claiming as claiming
-use Rattle.psac_readers.proofs.Links.{mods_learn}
+use Rattle.psac_readers.proofs.Links.{each_filter, mods_learn}
 use Rattle.psac_readers.proofs.Walking.{chain_learn, chain_named}
-use Rattle.psac_readers.proofs.Taking.{Only, only_linked, only_deads, others_sum, gone_sum}
+use Rattle.psac_readers.proofs.Taking.{Only, only_named, only_linked, only_deads, others_sum, gone_sum}
 use Rattle.psac_readers.proofs.Unlinking.{one_if, none_unless, times_append, without_mid, mods_lose, led_last}
 
 only_alive : (x : ℕ) → Only x (alive x)
@@ -282,3 +288,47 @@ one_given n v u w g t =
           ))
           (cases_eq m n);
     }
+
+swept_each : (P : LinkView → Type 0) (ls : List ℕ) (v : ReadersView) → Each P v.links → Each P (swept ls v).links
+swept_each P [] v h = h
+swept_each P (l ∷ ls) v h = swept_each P ls (swept_one l v) (each_filter P (other_link l) v.links h)
+
+-- as many links as slots are held, also when some went
+swept_held : (ls : List ℕ) (v : ReadersView) → ((l : ℕ) → sum_by (named l) v.links ≡ slot_times l v.claims.held) → (l : ℕ) → sum_by (named l) (swept ls v).links ≡ slot_times l (swept ls v).claims.held
+swept_held [] v h l = h l
+swept_held (x ∷ ls) v h l = swept_held ls (swept_one x v)
+    (λ y. ⊎_elim
+    (λ (e : y ≡ x). subst (λ z. sum_by (named z) (filter (other_link x) v.links) ≡ slot_times z (removed x v.claims.held)) (sym e) (gone_sum x (named x) (only_named x) v.links ∙ sym (removed_gone x v.claims.held)))
+    (λ (n : y ≢ x). others_sum x y (named y) (only_named y) n v.links ∙ (h y ∙ sym (removed_else y x v.claims.held n)))
+    (cases_eq y x))
+    l
+
+settled_in : (s : Stage) → is_settled s ≡ 1 → in_set s ≡ 1
+settled_in Claimed e = e
+settled_in (UnderWay n) e = refl
+settled_in In e = refl
+settled_in Dead e = refl
+
+-- links that are in no set are none
+none_linked : (links : ℕ) (ks : List LinkView) → Each (Fine links) ks → ((m l : ℕ) → sum_by (linked m l) ks ≡ 0) → ks ≡ []
+none_linked links [] h z = refl
+none_linked links (k ∷ ks) h z =
+    let a = sum_by-cons (linked k.of k.link) k ks in
+    let b = z k.of k.link in
+    let c : linked k.of k.link k ≡ in_set k.stage = ap {B = ℕ} (λ b. cond b (cond (k.of == k.of) (in_set k.stage) 0) 0) (eq-eqb k.link k.link refl) ∙ ap {B = ℕ} (λ b. cond b (in_set k.stage) 0) (eq-eqb k.of k.of refl) in
+    let d = settled_in k.stage h.0.settled in
+    absurd (omega (arith, a, b, c, d))
+
+none_held : (hs : List Handle) → ((s : ℕ) → slot_times s hs ≡ 0) → hs ≡ []
+none_held [] z = refl
+none_held (h ∷ hs) z = let a = member_times h (h ∷ hs) (inl refl) in let b = z h.slot in absurd (omega (arith, a, b))
+
+-- where all sets are empty, nothing is left
+pub all_gone : (links n : ℕ) (v w : ReadersView) → Each (Fine links) v.links → Holds v → v.mods ≤ n → AllGiven n v w → (w.claims.held ≡ []) × (w.links ≡ [])
+all_gone links n v w fine holds all g =
+    let linked_none : (m l : ℕ) → sum_by (linked m l) w.links ≡ 0 = λ m l. ⊎_elim
+    (λ (s : m < n). (g.empty m s).1 l)
+    (λ (far : n ≤ m). ap (sum_by (linked m l)) g.links ∙ swept_zero l (linked m l) (only_linked m l) g.gone v (holds.inside m l (omega (arith, far, all))))
+    (cases_lt m n) in
+    let none = none_linked links w.links (subst (Each (Fine links)) (sym g.links) (swept_each (Fine links) g.gone v fine)) linked_none in
+    (none_held w.claims.held (λ s. ap (λ (c : ClaimView). slot_times s c.held) g.claims ∙ (sym (swept_held g.gone v holds.held s) ∙ ap (sum_by (named s)) (sym g.links ∙ none))), none)

@@ -101,6 +101,7 @@ module _ (links mods : ℕ) (words : List ℕ) (views : List ReadersView) (h : R
         sets = record {
           next = h.sets.next;
           chain = h.sets.chain;
+          beyond = h.sets.beyond;
           long = (let a = h.sets.long in let b = length-set words i 0 in omega (arith, a, b));
           heads = λ m lt. let o = h.sets.heads m lt in (o.0, set_else words i (head_at links m) 0 (λ q. absurd (omega (arith, q, lt))) ∙ o.1, o.2);
           stored = λ x lt. ⊎_elim
@@ -119,6 +120,7 @@ module _ (links mods : ℕ) (words : List ℕ) (views : List ReadersView) (h : R
                 placed = each_map (Placed (mods_of v.walk) v.shared) (Placed (mods_of v.walk) v.shared) (revive l) (λ k q e. q (sym (revive_in k.stage (k.link == l)) ∙ e)) v.links t.placed;
                 whole = λ m has x. linked_stay m x ∙ t.whole m has x;
                 seen = t.seen;
+                gone = λ z. ap (map (revive l)) (t.gone z);
               }
               (others_stay links mods words views h id v at i 0 (λ j u n e q. know u.links q));
         };
@@ -231,6 +233,7 @@ module _ (links mods : ℕ) (words : List ℕ) (views : List ReadersView) (h : R
         sets = record {
           next = h.sets.next;
           chain = h.sets.chain;
+          beyond = h.sets.beyond;
           long = (let a = h.sets.long in let b = length-set words i n in omega (arith, a, b));
           heads = λ m lt. let o = h.sets.heads m lt in (o.0, set_else words i (head_at links m) n (λ q. absurd (omega (arith, q, near))) ∙ o.1, o.2);
           stored = λ z lt. set_else words i (dead_at links mods z) n (λ q. absurd (omega (arith, q, near))) ∙ (h.sets.stored z lt ∙ ap some (let s = sum_set (λ (u : ReadersView). sum_by (deads z) u.links) views id v w at in let a = deads_stay z in omega (arith, s, a)));
@@ -248,6 +251,7 @@ module _ (links mods : ℕ) (words : List ℕ) (views : List ReadersView) (h : R
                 placed = each_filter (Placed (mods_of v.walk) v.shared) (other_link l) v.links t.placed;
                 whole = λ m had z. linked_stay m z ∙ t.whole m had z;
                 seen = t.seen;
+                gone = λ z. ap (filter (other_link l)) (t.gone z);
               }
               (others_stay links mods words views h id v at i n (λ j u d e q. know u.links q));
         };

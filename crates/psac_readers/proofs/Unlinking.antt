@@ -191,6 +191,7 @@ module _ (links mods : ℕ) (words : List ℕ) (views : List ReadersView) (h : R
         sets = record {
           next = next;
           chain = λ y. without l (h.sets.chain y);
+          beyond = λ y far. ap (without l) (h.sets.beyond y far);
           long = (let a = h.sets.long in let b = length-set words i n in omega (arith, a, b));
           heads = heads;
           stored = λ x lt. set_else words i (dead_at links mods x) n (λ q. no_dead x (sym q)) ∙ (h.sets.stored x lt ∙ ap some (let s = sum_set (λ (u : ReadersView). sum_by (deads x) u.links) views id v w at in let a = deads_stay x in omega (arith, s, a)));
@@ -210,6 +211,7 @@ module _ (links mods : ℕ) (words : List ℕ) (views : List ReadersView) (h : R
                     (λ (d : x ≢ l). off_links y x d ∙ (o ∙ sym (without_else l x (h.sets.chain y) d)))
                     (cases_eq x l);
                 seen = seen_lose l h.sets.chain v.walk t.seen;
+                gone = λ z. ap (map (take_off l)) (t.gone z);
               }
               (λ j u d e. let o = h.sets.tells j u e in record {
                 mods_is = o.mods_is;
@@ -217,6 +219,7 @@ module _ (links mods : ℕ) (words : List ℕ) (views : List ReadersView) (h : R
                 placed = o.placed;
                 whole = λ y has x. o.whole y has x ∙ sym (ap (times x) (without_none l (h.sets.chain y) (foreign j u d e y has)));
                 seen = seen_else u.walk (λ y has. foreign j u d e y has) o.seen;
+                gone = o.gone;
               });
         };
       }

@@ -1,5 +1,5 @@
 -- The rule of a table of readers.
-use Rattle.std.specs.Prelude.{◌≡◌, ◌⊎◌, ℕ, suc, ◌+◌, ◌*◌, ◌<◌, List, [], ◌∷◌, map, length, Bool, true, cond, ◌==◌, sum_by, Some}
+use Rattle.std.specs.Prelude.{◌≡◌, ◌⊎◌, ℕ, suc, ◌+◌, ◌*◌, ◌<◌, ◌≤◌, List, [], ◌∷◌, map, length, Bool, true, false, cond, ◌==◌, sum_by, Some}
 use mathlib.Core.Option.{some}
 use lib.ListN.{get_elem?}
 use Rattle.psac_slots.specs.declared.view.ClaimView.{ClaimView}
@@ -123,12 +123,15 @@ pub record Tells (links mods : ℕ) (words : List ℕ) (next : ℕ → ℕ) (cha
   -- all links of a set that no other pass touches are its own
   pub whole : (m : ℕ) → Member m (mods_of v.walk) → (l : ℕ) → sum_by (linked m l) v.links ≡ times l (chain m)
   pub seen : Each (Seen chain) v.walk
+  pub gone : v.claims.live ≡ false → v.links ≡ []
 
 pub record Chained (links mods : ℕ) (words : List ℕ) (views : List ReadersView) : Type 0 where
   pub next : ℕ → ℕ
   pub chain : ℕ → List ℕ
   pub long : links + (mods + 3 * links) < length words
   pub heads : (m : ℕ) → m < mods → (w : ℕ) × (get_elem? words (head_at links m) ≡ some w) × Follows next w (chain m)
+  -- no link is in a set beyond those of the table
+  pub beyond : (m : ℕ) → mods ≤ m → chain m ≡ []
   -- the dead word is 1 exactly where a view says dead
   pub stored : (l : ℕ) → l < links → get_elem? words (dead_at links mods l) ≡ some (sum_by (λ (v : ReadersView). sum_by (deads l) v.links) views)
   -- a chain has each link that a view has in the set, and no other

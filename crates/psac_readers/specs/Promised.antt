@@ -1,9 +1,9 @@
 -- What the rule of reader sets gives, in plain sentences.
-use Rattle.std.specs.Prelude.{◌≡◌, ◌≢◌, ℕ, ◌+◌, ◌<◌, ◌≤◌, List, map, length, true, sum_by}
+use Rattle.std.specs.Prelude.{◌≡◌, ◌≢◌, ℕ, ◌+◌, ◌<◌, ◌≤◌, List, map, drop, length, true, sum_by}
 use mathlib.Core.Option.{some}
 use lib.ListN.{get_elem?}
 use Rattle.psac_slots.specs.Branches.{is_prefix}
-use Rattle.psac_slots.specs.Handles.{Member}
+use Rattle.psac_slots.specs.Handles.{Member, slot_times}
 use Rattle.psac_slots.specs.Promised as slots
 use Rattle.psac_readers.specs.declared.view.Stage.TheVariants.{UnderWay}
 use Rattle.psac_readers.specs.declared.view.LinkView.{LinkView}
@@ -15,6 +15,8 @@ use Rattle.psac_readers.specs.Steps.{is_settled}
 pub record Promised (links mods : ℕ) (words : List ℕ) (views : List ReadersView) : Type 0 where
   -- what the rule of claims gives
   pub claims : slots.Promised words (map claims_of views)
+  -- a link that is still to be drawn no pass has
+  pub free_unlinked : (i : ℕ) (v : ReadersView) (l : ℕ) → get_elem? views i ≡ some v → 0 < slot_times l (drop claims.counter claims.list) → sum_by (named l) v.links ≡ 0
   -- the word that leads on from a link
   pub next : ℕ → ℕ
   -- the links of a set, from its head on

@@ -1,5 +1,5 @@
 -- What each step makes of a view, and what it tells.
-use Rattle.std.specs.Prelude.{◌≡◌, ◌⊎◌, ℕ, zero, suc, ◌+◌, ◌<◌, ◌≤◌, List, [], ◌∷◌, ◌++◌, map, filter, length, drop, Bool, cond, not, ltb, ◌==◌, sum_by, Option, Some, None}
+use Rattle.std.specs.Prelude.{◌≡◌, ◌⊎◌, ℕ, zero, suc, ◌+◌, ◌<◌, ◌≤◌, List, [], ◌∷◌, ◌++◌, map, filter, length, Bool, cond, not, ltb, ◌==◌, sum_by, Option, Some, None}
 use mathlib.Core.Option.{some}
 use lib.ListN.{get_elem?}
 use Rattle.atomic_table.specs.Table.{Step, Me}
@@ -133,9 +133,9 @@ settled l k = cond (k.link == l) (is_settled k.stage) 0
 abbrev pub regained : ℕ → ReadersView → ReadersView
 regained n v = record v { claims = claiming.learned n v.claims }
 
--- no other pass has a set that this one shares
+-- no other pass has a set that this one shares, and none drew an index
 abbrev pub Regained : Step (Unit {0}) → Seat → ℕ → Seat → Type 0
-Regained s v n w = (w ≡ (regained n v.0, v.1)) × (v.0.shared ≡ [])
+Regained s v n w = (w ≡ (regained n v.0, v.1)) × (v.0.shared ≡ []) × claiming.DrewBelow n v.0.claims
 
 abbrev pub rewound : ReadersView → ReadersView
 rewound v = record v { claims = claiming.rewound v.claims }
@@ -143,15 +143,23 @@ rewound v = record v { claims = claiming.rewound v.claims }
 abbrev pub Rewound : Step (Unit {0}) → Seat → ℕ → Seat → Type 0
 Rewound s v n w = w ≡ (rewound v.0, v.1)
 
+-- each link of the pass is held, and what it holds is one of its links; each is in a set of the table, if it is in one
+pub record Holds (v : ReadersView) : Type 0 where
+  pub held : (l : ℕ) → sum_by (named l) v.links ≡ handles.slot_times l v.claims.held
+  pub inside : (m l : ℕ) → v.mods ≤ m → sum_by (linked m l) v.links ≡ 0
+
 pub record Loaded (s : Step (Unit {0})) (v : Seat) (n : ℕ) (w : Seat) : Type 0 where
   pub same : w ≡ v
   pub low : (l : ℕ) → 0 < sum_by (named l) v.0.links → l < v.0.claims.count
   pub once : (l : ℕ) → sum_by (named l) v.0.links ≤ 1
   pub entry : (k : ℕ) → s.word ≡ claiming.place v.0.claims.count (v.0.claims.head + k) → (h : Handle) → get_elem? v.0.claims.list k ≡ some h → (n ≡ handles.word_of h) × handles.IsHandle h
   pub counter : (c : ℕ) → s.word ≡ 0 → v.0.claims.counter ≡ Some c → n ≡ c
-  -- the ring has room for all that is free and all that is out
-  pub room : (c : ℕ) → v.0.claims.counter ≡ Some c → length (drop c v.0.claims.list) + length v.0.claims.held ≤ v.0.claims.count
+  -- to a sole pass, each link that isn't still to be drawn is its own
+  pub whole : claiming.IsSole v.0.claims → claiming.Accounted (claiming.rewound v.0.claims)
+  pub holds : claiming.IsSole v.0.claims → Holds v.0
   pub dead : (l : ℕ) → s.word ≡ dead_at v.0.claims.count v.0.mods l → 0 < sum_by (named l) v.0.links → n ≡ sum_by (deads l) v.0.links
+  -- to a sole pass a link that no pass has says that it isn't dead
+  pub alone : claiming.IsSole v.0.claims → (l : ℕ) → l < v.0.claims.count → s.word ≡ dead_at v.0.claims.count v.0.mods l → n ≡ sum_by (deads l) v.0.links
   pub next : (l m : ℕ) (ls : List ℕ) → m < v.0.mods → s.word ≡ next_at v.0.claims.count v.0.mods l → chain_of m v.0.walk ≡ Some ls → 0 < times l ls → 0 < sum_by (settled l) v.0.links → n ≡ front (behind l ls)
   pub node : (l x : ℕ) → s.word ≡ node_at v.0.claims.count v.0.mods l → node_in l v.0.links ≡ Some x → n ≡ x
 

@@ -2,8 +2,8 @@
 ghost use Rattle.std.specs.Prelude.{◌≡◌, ◌⊎◌, ℕ, suc, ◌+◌, ◌*◌, ◌<◌, ◌≤◌, List, [], ◌∷◌, ◌++◌, length, true, false, Bool, Some, None, IfOk, IfErr, IfSome, sum_by};
 ghost use Rattle.atomic_table.specs.Seated.{TableId};
 ghost use Rattle.psac_slots.specs.Handles.{word_of};
-ghost use Rattle.psac_readers.specs.Steps.{first_view, drew, Has, Entered, left_of, right_of, joined, left, Fine, next_live, set_of, chain_of, behind, node_in, regained, rewound, learned, front, IsSet, swept_one};
-ghost use Rattle.psac_slots.specs.Claiming.{IsSole};
+ghost use Rattle.psac_readers.specs.Steps.{first_view, drew, Has, Entered, left_of, right_of, joined, left, Fine, next_live, set_of, chain_of, behind, node_in, regained, rewound, learned, front, IsSet, swept_one, Holds};
+ghost use Rattle.psac_slots.specs.Claiming.{IsSole, Accounted, DrewBelow};
 ghost use Rattle.psac_readers.specs.Chained.{next_at, alive, deads, named, times, mods_of, Each};
 ghost use Rattle.psac_slots.specs.Handles.{Member};
 ghost use Rattle.psac_slots.specs.Passes.{Pass};
@@ -139,8 +139,8 @@ impl Readers {
         ))
     }
 
-    /// Claims a link and puts it into the set of `m`, by one swap of the set's head and one store. Full where the
-    /// drawn index is not below the room; the pass keeps the index, and the set is as it was.
+    /// Claims a link, none of the pass's own, and puts it into the set of `m`, by one swap of the set's head and one
+    /// store. Full where the drawn index is not below the room; the pass keeps the index, and the set is as it was.
     pub fn enter(&self, pass: &mut ReadersPass, m: Handle, node: Handle) -> Result<Link, Full>
         requires table { pass.old.table ≡ self.now }
         requires room { pass.old.knows.claims.over ≡ 0 }
@@ -148,6 +148,7 @@ impl Readers {
         requires set { Has m.slot pass.old.knows }
         ensures table { pass.new.table ≡ pass.old.table }
         ensures ok { IfOk result (λ l. Entered pass.old.knows m.slot (word_of node) l.index pass.new.knows) }
+        ensures new { IfOk result (λ l. sum_by (named l.index) pass.old.knows.links ≡ 0) }
         ensures room { IfOk result (λ _. pass.new.knows.claims.over ≡ 0) }
         ensures has { IfOk result (λ _. (x : ℕ) → Has x pass.old.knows → Has x pass.new.knows) }
         ensures full { IfErr result (λ f. (f.room ≡ length pass.old.knows.claims.list) × (f.room ≤ f.index) × (pass.new.knows ≡ drew pass.old.knows f.index)) }
@@ -211,12 +212,14 @@ impl Readers {
         )
     }
 
-    /// What both sides had. A set that they shared from their branch on is the pass's alone again.
+    /// What both sides had, in which no link stands twice. A set that they shared from their branch on is the pass's
+    /// alone again.
     pub fn join(&self, left: ReadersPass, right: ReadersPass) -> ReadersPass
         requires table { (left.table ≡ self.now) × (right.table ≡ self.now) }
         requires sides { (b : List Bool) × (left.knows.claims.branch ≡ b ++ false ∷ []) × (right.knows.claims.branch ≡ b ++ true ∷ []) }
         ensures table { result.table ≡ left.table }
         ensures joined { result.knows ≡ joined left.knows right.knows }
+        ensures once { (l : ℕ) → sum_by (named l) result.knows.links ≤ 1 }
     {
         let ReadersPass {
             mut seat,
@@ -309,12 +312,13 @@ impl Readers {
         }
     }
 
-    /// The pass, whose forks were all joined again, is sole: it knows the counter, and shares nothing.
+    /// The pass, whose forks were all joined again, is sole: it knows the counter, drew each index below it once, and
+    /// shares nothing.
     pub fn regain(&self, pass: ReadersPass) -> ReadersPass
         requires table { pass.table ≡ self.now }
         requires joined { pass.knows.claims.branch ≡ [] }
         ensures table { result.table ≡ pass.table }
-        ensures counter { (n : ℕ) × (result.knows ≡ regained n pass.knows) }
+        ensures counter { (n : ℕ) × (result.knows ≡ regained n pass.knows) × DrewBelow n pass.knows.claims }
         ensures alone { result.knows.shared ≡ [] }
     {
         let ReadersPass {
@@ -334,13 +338,16 @@ impl Readers {
         }
     }
 
-    /// The counter is 0 again, and the free list is what was left of it, in its order.
+    /// The counter is 0 again, and the free list is what was left of it, in its order. Each link is in the list or one
+    /// of the pass's own, and in one of them.
     pub fn rewind(&self, pass: &mut ReadersPass)
         requires table { pass.old.table ≡ self.now }
         requires sole { IsSole pass.old.knows.claims }
         ensures table { pass.new.table ≡ pass.old.table }
         ensures rewound { pass.new.knows ≡ rewound pass.old.knows }
-        ensures room { length pass.new.knows.claims.list + length pass.new.knows.claims.held ≤ pass.new.knows.claims.count }
+        ensures whole { Accounted pass.new.knows.claims }
+        ensures once { (l : ℕ) → sum_by (named l) pass.new.knows.links ≤ 1 }
+        ensures holds { Holds pass.new.knows }
     {
         let counter = self.table.shared.load::<Loads>(&mut pass.seat, 0);
         self.table.shared.store::<Rewinds>(&mut pass.seat, 0, 0);
@@ -394,10 +401,10 @@ impl Readers {
         requires begun { pass.old.knows.claims.counter ≡ Some 0 }
         requires place { Placing pass.old.knows before link next }
         requires own { 0 < sum_by (named link) pass.old.knows.links }
-        requires room { length pass.old.knows.claims.list + length pass.old.knows.claims.held ≤ pass.old.knows.claims.count }
+        requires whole { Accounted pass.old.knows.claims }
         ensures table { pass.new.table ≡ pass.old.table }
         ensures freed { pass.new.knows ≡ swept_one link pass.old.knows }
-        ensures room { length pass.new.knows.claims.list + length pass.new.knows.claims.held ≤ pass.new.knows.claims.count }
+        ensures whole { Accounted pass.new.knows.claims }
     {
         let own = pass.links as usize + (pass.mods as usize + 3 * link as usize) + 2;
         self.table.shared.store::<Revives>(&mut pass.seat, own, 0);
@@ -419,12 +426,12 @@ impl Readers {
         requires begun { pass.old.knows.claims.counter ≡ Some 0 }
         requires more { 0 < word }
         requires going { (v : ReadersView) × (m : ℕ) × Going all v m pass.old.knows before word }
-        requires room { length pass.old.knows.claims.list + length pass.old.knows.claims.held ≤ pass.old.knows.claims.count }
+        requires whole { Accounted pass.old.knows.claims }
         ensures table { pass.new.table ≡ pass.old.table }
         ensures begun { pass.new.knows.claims.counter ≡ Some 0 }
         ensures going { (v : ReadersView) (m : ℕ) → Going all v m pass.old.knows before word → Going all v m pass.new.knows result.0 result.1 }
         ensures less { (v : ReadersView) (m : ℕ) → Going all v m pass.old.knows before word → remaining m pass.new.knows result.1 < remaining m pass.old.knows word }
-        ensures room { length pass.new.knows.claims.list + length pass.new.knows.claims.held ≤ pass.new.knows.claims.count }
+        ensures whole { Accounted pass.new.knows.claims }
     {
         let (links, mods) = (pass.links, pass.mods);
         let link = (word - 1) as u32;
@@ -443,11 +450,11 @@ impl Readers {
         requires begun { pass.old.knows.claims.counter ≡ Some 0 }
         requires inside { m < pass.old.knows.mods }
         requires walk { Member m (mods_of pass.old.knows.walk) }
-        requires room { length pass.old.knows.claims.list + length pass.old.knows.claims.held ≤ pass.old.knows.claims.count }
+        requires whole { Accounted pass.old.knows.claims }
         ensures table { pass.new.table ≡ pass.old.table }
         ensures begun { pass.new.knows.claims.counter ≡ Some 0 }
         ensures taken { TakenOff all pass.old.knows m pass.new.knows }
-        ensures room { length pass.new.knows.claims.list + length pass.new.knows.claims.held ≤ pass.new.knows.claims.count }
+        ensures whole { Accounted pass.new.knows.claims }
     {
         let mut before = pass.links as usize + m as usize + 1;
         let mut word = self.head_of(pass, m);
@@ -458,6 +465,20 @@ impl Readers {
         }
     }
 
+    /// Whether the link was left and not swept since.
+    pub fn is_dead(&self, pass: &mut ReadersPass, link: Link) -> bool
+        requires table { pass.old.table ≡ self.now }
+        requires sole { IsSole pass.old.knows.claims }
+        requires inside { link.index < pass.old.knows.claims.count }
+        ensures same { pass.new ≡ pass.old }
+        ensures dead { result ≡ true → 0 < sum_by (deads link.index) pass.old.knows.links }
+        ensures other { result ≡ false → sum_by (deads link.index) pass.old.knows.links ≡ 0 }
+    {
+        let own = pass.links as usize + (pass.mods as usize + 3 * link.index as usize) + 2;
+        let found = self.table.shared.load::<Loads>(&mut pass.seat, own);
+        found != 0
+    }
+
     /// The dead links of a set are taken off, and are free again behind all others. The list begins anew.
     pub fn sweep(&self, pass: &mut ReadersPass, m: Handle)
         requires table { pass.old.table ≡ self.now }
@@ -466,6 +487,7 @@ impl Readers {
         requires walk { Member m.slot (mods_of pass.old.knows.walk) }
         ensures table { pass.new.table ≡ pass.old.table }
         ensures swept { TakenOff false (rewound pass.old.knows) m.slot pass.new.knows }
+        ensures whole { Accounted pass.new.knows.claims }
     {
         self.rewind(pass);
         self.take_off(pass, m.slot, false);
@@ -478,6 +500,8 @@ impl Readers {
         requires sets { (m : ℕ) → m < pass.old.knows.mods → Member m (mods_of pass.old.knows.walk) }
         ensures table { pass.new.table ≡ pass.old.table }
         ensures given { AllGiven pass.old.knows.mods (rewound pass.old.knows) pass.new.knows }
+        ensures empty { (pass.new.knows.claims.held ≡ []) × (pass.new.knows.links ≡ []) }
+        ensures whole { Accounted pass.new.knows.claims }
     {
         self.rewind(pass);
         let mods = pass.mods;

@@ -64,7 +64,7 @@ module _ (fixed count : ℕ) where
               let q = free_state fixed count h.0 h.1 h.2 s.words s.views h.3 id v at live p.2 k (subst (λ m. k < m) count_is low) none in
               (q.0, word (state_at count k) (2 * q.0) (is ∙ ap (λ m. state_at m k) count_is) q.1, subst (λ m. Lacks v (m + k)) (sym (f.fixed_is live)) (lacks fixed count h.0 h.1 h.2 s.words s.views h.3 k (all_held fixed count h.0 h.1 h.2 s.words s.views h.3 id v at live p.2 k ∙ none) id v at));
           once = old.once;
-          room = old.room;
+          whole = old.whole;
           held_is = f.held_is;
         }
 
@@ -147,7 +147,11 @@ module _ (fixed count : ℕ) where
         tt,
         subst (λ (ws : List ℕ). Rule fixed count ws (set s.views id (learned k v))) (sym (set-get_or s.words 0 0))
             (subst (λ (z : ℕ). Rule fixed count s.words (set s.views id (learned z v))) (sym e) (h.0, h.1, h.2, learns_at fixed count h.0 h.1 h.2 s.words s.views h.3 id v at live empty)),
-        (refl, nothing_known fixed count h.0 h.1 h.2 s.words s.views h.3 id v at live empty),
+        (
+          refl,
+          nothing_known fixed count h.0 h.1 h.2 s.words s.views h.3 id v at live empty,
+          subst (λ z. claiming.DrewBelow z v.claims) (sym e) (turns.drawn_all count h.0 h.1 h.2 s.words (map claims_of s.views) h.3.claims id v.claims (at_claims fixed count h.0 h.1 h.2 s.words s.views h.3 id v at) live empty),
+        ),
       )
 
   pub rewinds : (n id : ℕ) (v : ValueView) (hs : List (ℕ × Unit {0})) → claiming.IsSole v.claims

@@ -5,7 +5,7 @@ use Rattle.std.proofs.lemmas.List.{length-map, map-append}
 use Rattle.std.proofs.lemmas.Bool.{cases_lt, eq-eqb, ne_eqb, cases_Bool}
 use Rattle.std.proofs.lemmas.List.Sums.{sum_by-cons, sum_by_push}
 use Rattle.psac_slots.proofs.Sums.{bit}
-use Rattle.psac_slots.proofs.Removed.{member_times, claimed_entry, removed_length}
+use Rattle.psac_slots.proofs.Removed.{member_times, claimed_entry}
 use mathlib.Core.Option.{some}
 use lib.ListN.{get_elem?}
 use Rattle.psac_ops.specs.declared.plain.Handle.{Handle}
@@ -15,6 +15,7 @@ use Rattle.psac_slots.specs.Claiming as claiming
 use Rattle.psac_slots.specs.Divided.{stays, goes, lends, above, comes_back}
 use Rattle.psac_slots.proofs.Pairs.{member_left, member_right, member_cases, member_filter, filter_member, member_map, map_member}
 use Rattle.psac_slots.proofs.Rewinds.{parts, turned_low}
+use Rattle.psac_slots.proofs.Carrying as ring
 use Rattle.psac_values.specs.declared.view.OwnedView.{OwnedView}
 use Rattle.psac_values.specs.declared.view.KnownView.{KnownView}
 use Rattle.psac_values.specs.declared.view.StateView.{StateView}
@@ -309,5 +310,5 @@ pub gave_marked : (h : Handle) (x : ℕ) (v : ValueView) → gave h (marked h.sl
 gave_marked h x v = λ i. record v { claims = claiming.gave h v.claims; mine = filter (other_owned (v.fixed + h.slot)) v.mine; states = marked_else h.slot x v.states i }
 
 -- where a slot is out, the ring has room
-pub has_room : (fixed count head room words : ℕ) (v : ValueView) (x : Handle) → Carries fixed count head room words v → Member x v.claims.held → length v.claims.list + length v.claims.held ≤ v.claims.count → room < count
-has_room fixed count head room words v x p has r = let a = member_times x v.claims.held has in let b = removed_length x.slot v.claims.held in let c = p.count_is in let d = p.room_is in omega (arith, a, b, c, d, r)
+pub has_room : (fixed count head room words : ℕ) (v : ValueView) (x : Handle) → Carries fixed count head room words v → Member x v.claims.held → claiming.Accounted v.claims → room < count
+has_room fixed count head room words v x p has a = let r = ring.has_room v.claims a x (member_times x v.claims.held has) in let c = p.count_is in let d = p.room_is in omega (arith, r, c, d)

@@ -1,13 +1,15 @@
 -- Made slots that are given back, one after another.
-use Rattle.std.proofs.Common.{◌≡◌, ◌≢◌, ℕ, suc, ◌+◌, ◌/◌, ◌%◌, ◌<◌, ◌≤◌, [], ◌∷◌, ◌++◌, map, length, Bool, true, false, ltb, refl, sym, ap, ◌∙◌, subst, ⊎_elim, arith, Some, append_assoc, append-nil, length-append}
+use Rattle.std.proofs.Common.{◌≡◌, ◌≢◌, ℕ, suc, ◌+◌, ◌/◌, ◌%◌, ◌<◌, ◌≤◌, ◌++◌, map, Bool, true, false, ltb, refl, sym, ap, ◌∙◌, subst, ⊎_elim, arith, Some, append_assoc, append-nil}
 use Rattle.std.specs.Prelude.{filter, not, ◌==◌, ◌&&◌, ◌||◌}
 use Rattle.std.proofs.lemmas.List.{map-append}
 use Rattle.std.proofs.lemmas.Bool.{ne_eqb, lt-ltb, le-ltb, cases_lt}
 use Rattle.psac_ops.specs.declared.plain.Handle.{Handle}
 use Rattle.psac_slots.specs.Handles.{Member, later, slot_times, removed, IsDistinct}
+use Rattle.psac_slots.specs.Claiming as claiming
 use Rattle.psac_slots.specs.Given.{only, by_slot}
+use Rattle.psac_slots.proofs.Carrying.{accounted_returned}
 use Rattle.psac_slots.proofs.Pairs.{member_map, map_member}
-use Rattle.psac_slots.proofs.Removed.{member_times, removed_length}
+use Rattle.psac_slots.proofs.Removed.{member_times}
 use Rattle.psac_slots.proofs.Given.{filter_twice, filter_all, filter_none, filter_same, from_next, from_here, only_one, only_none, removed_none}
 use Rattle.psac_values.specs.declared.view.OwnedView.{OwnedView}
 use Rattle.psac_values.specs.declared.view.StateView.{StateView}
@@ -104,12 +106,8 @@ gave_one v h s d m is = (λ i. record v {
   states = filter (other_state h.slot) v.states;
 }) ∙ ap (λ k. gave_slot k v) is
 
-pub gave_room : (v : ValueView) (h : Handle) → Member h v.claims.held → length v.claims.list + length v.claims.held ≤ v.claims.count → length (gave h v).claims.list + length (gave h v).claims.held ≤ (gave h v).claims.count
-gave_room v h m r =
-    let a = length-append v.claims.list (later h ∷ []) in
-    let b = member_times h v.claims.held m in
-    let c = removed_length h.slot v.claims.held in
-    omega (arith, a, b, c, r)
+pub gave_whole : (v : ValueView) (h : Handle) → 0 < slot_times h.slot v.claims.held → claiming.Accounted v.claims → claiming.Accounted (gave h v).claims
+gave_whole v h has a = accounted_returned v.claims a (later h) has
 
 module _ (fixed count head room words : ℕ) (v : ValueView) (p : Carries fixed count head room words v) (s c i n : ℕ) (sole : v.claims.counter ≡ Some c) (t : Tells v i n) (low : s < count) (is : i ≡ suc (count + s)) where
   -- an odd state says that the slot is out

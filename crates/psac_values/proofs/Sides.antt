@@ -1,5 +1,5 @@
 -- Splits and joins keep the rule of values.
-use Rattle.std.proofs.Common.{◌≡◌, ◌≢◌, ◌⊎◌, ℕ, ◌+◌, ◌-◌, ◌<◌, ◌≤◌, List, [], ◌∷◌, ◌++◌, map, length, set, Bool, true, false, true≢false, refl, sym, ap, ◌∙◌, subst, inl, inr, ⊎_elim, arith, length-append}
+use Rattle.std.proofs.Common.{◌≡◌, ◌≢◌, ◌⊎◌, ℕ, ◌+◌, ◌-◌, ◌<◌, ◌≤◌, List, [], ◌∷◌, ◌++◌, map, length, set, Bool, true, false, true≢false, refl, sym, ap, ◌∙◌, subst, inl, inr, ⊎_elim, arith}
 use Rattle.std.specs.Prelude.{sum_by, filter, ◌==◌, cond}
 use Rattle.std.proofs.lemmas.List.{map-set, map-append}
 use Rattle.std.proofs.lemmas.List.Sums.{sum_by-append, sum_by_push}
@@ -14,9 +14,8 @@ use Rattle.psac_slots.specs.Claiming as claiming
 use Rattle.psac_slots.specs.Divided.{Divided, Rights, stays, goes, lends, above, comes_back, no_rights}
 use Rattle.psac_slots.proofs.Keeps as laws
 use Rattle.psac_slots.proofs.Sums.{sum_set, all_set}
-use Rattle.psac_slots.proofs.Turns.{prefix_long}
 use Rattle.psac_slots.proofs.Pairs.{member_cases, member_filter, member_map, one_after}
-use Rattle.psac_slots.proofs.Dividing.{divides, unites, prefix_cut}
+use Rattle.psac_slots.proofs.Dividing.{divides, unites, meets}
 use Rattle.psac_values.specs.declared.view.OwnedView.{OwnedView}
 use Rattle.psac_values.specs.declared.view.KnownView.{KnownView}
 use Rattle.psac_values.specs.declared.view.ValueView.{ValueView}
@@ -97,15 +96,6 @@ module _ (fixed count c head : ℕ) (list : List Handle) (words : List ℕ) (vie
         (member_cases z (v.mine ++ w.mine) (map ways.back (filter (comes_back ways (stem v.claims.branch)) v.known)) m)
 
     -- what the right side knows, the left side knows
-    pub known_same : (e : KnownView) → Member e w.known → Member e v.known
-    known_same e m =
-        let o = (h.rights.own other (rights_of w) (at_map rights_of views other w was)).labels e m in
-        let sides = h.rights.beside other id (rights_of w) (rights_of v) (at_map rights_of views other w was) (at_map rights_of views id v at) two in
-        let n = ap length rb in
-        let k = length-append b (true ∷ []) in
-        let s = o.1 in
-        sides.below e m live (ap (λ (z : List Bool). is_prefix e.label z) lb ∙ prefix_long e.label b false (prefix_cut e.label b true (ap (λ (z : List Bool). is_prefix e.label z) (sym rb) ∙ o.0) (omega (arith, n, k, s))))
-
     pub joins_at : Valued fixed count c head list words (set (set views id (met v w)) other spent)
     joins_at =
         let m = met v w in
@@ -123,8 +113,6 @@ module _ (fixed count c head : ℕ) (list : List Handle) (words : List ℕ) (vie
         let more : (u : ValueView) → Made fixed views u → Made fixed after u = λ u. made_more fixed views after u (λ s p. let a = held s in omega (arith, a, p)) in
         let mv = more v (h.made id v at) in
         let mw = more w (h.made other w was) in
-        let vw = h.rights.beside id other (rights_of v) (rights_of w) (at_map rights_of views id v at) (at_map rights_of views other w was) (λ p. two (sym p)) in
-        let wv = h.rights.beside other id (rights_of w) (rights_of v) (at_map rights_of views other w was) (at_map rights_of views id v at) two in
         record {
           claims = subst (claiming.Claimed count c head list words) (sym (map-set claims_of mid other spent ∙ ap (λ z. set z other claiming.spent) (map-set claims_of views id m)))
               (laws.joins_at count c head list words (map claims_of views) h.claims id other v.claims w.claims b (at_map claims_of views id v at) (at_map claims_of views other w was) two live alive lb rb);
@@ -141,7 +129,7 @@ module _ (fixed count c head : ℕ) (list : List Handle) (words : List ℕ) (vie
                 known = λ z q. f.known z (member_filter (above ways (stem v.claims.branch)) z v.known q).0;
                 states = λ t q. ⊎_elim (λ p. f.states t p) (λ p. g.states t p) (member_cases t v.states w.states q);
                 held_is = map-append handle_of v.states w.states ∙ (λ i. f.held_is i ++ g.held_is i);
-                met = record { alone = vw.alone; left = λ x e p q. vw.apart x p e q; right = λ x e p q. wv.apart x p e q; same = known_same };
+                met = meets ways (map rights_of views) id other (rights_of v) (rights_of w) b h.rights (at_map rights_of views id v at) (at_map rights_of views other w was) two live alive lb rb;
               }
               (λ i y o d. h.each i y d) j u e);
           made = all_set (λ _ u. Made fixed after u) mid other spent

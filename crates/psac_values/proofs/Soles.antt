@@ -10,7 +10,7 @@ use Rattle.psac_slots.specs.Handles.{Member, word_of, later, slot_times, removed
 use Rattle.psac_slots.specs.declared.view.ClaimView.{ClaimView}
 use Rattle.psac_slots.specs.Claiming as claiming
 use Rattle.psac_slots.proofs.Rewinds as turns
-use Rattle.psac_slots.proofs.Sums.{bit, sum_set, sum_none, all_set, at_drop, at_new}
+use Rattle.psac_slots.proofs.Sums.{bit, at_drop, at_new}
 use Rattle.psac_slots.proofs.Pairs.{member_filter}
 use Rattle.psac_slots.proofs.Removed.{found, removed_else}
 use Rattle.psac_slots.proofs.Dividing.{changes, off}
@@ -66,13 +66,7 @@ module _ (fixed count c head : ℕ) (list : List Handle) (words : List ℕ) (vie
 
   -- what a sole pass holds is all that is held
   pub all_held : (s : ℕ) → held_times s views ≡ slot_times s v.claims.held
-  all_held s =
-      let f : ClaimView → ℕ = λ (u : ClaimView). slot_times s u.held in
-      let l = map claims_of views in
-      let a = sum_set f l id v.claims claiming.spent mine_at in
-      let z = sum_none f (set l id claiming.spent) (all_set (λ _ (u : ClaimView). f u ≡ 0) l id claiming.spent refl
-      (λ j u n e. ap (slot_times s) ((h.claims.each j u e).gone (turns.alone count c head list words (map claims_of views) h.claims id v.claims mine_at live empty j u n e)).1)) in
-      omega (arith, a, z)
+  all_held s = turns.alone_sum count c head list words (map claims_of views) h.claims id v.claims mine_at live empty (λ (u : ClaimView). slot_times s u.held) refl (λ u _ d. ap (slot_times s) d)
 
   -- the state of a slot that a sole pass doesn't hold says that it is free
   pub free_state : (s : ℕ) → s < count → slot_times s v.claims.held ≡ 0 → (g : ℕ) × (get_elem? words (state_at count s) ≡ some (2 * g))

@@ -1,5 +1,5 @@
 -- What each step makes of a view, and what it tells.
-use Rattle.std.specs.Prelude.{◌≡◌, ◌≢◌, ℕ, zero, suc, ◌+◌, ◌*◌, ◌<◌, ◌≤◌, List, [], ◌∷◌, ◌++◌, map, filter, length, set, drop, Bool, cond, not, ltb, ◌==◌, Some, None, IfSome}
+use Rattle.std.specs.Prelude.{◌≡◌, ◌≢◌, ℕ, zero, suc, ◌+◌, ◌*◌, ◌<◌, List, [], ◌∷◌, ◌++◌, map, filter, length, set, Bool, cond, not, ltb, ◌==◌, Some, None, IfSome}
 use mathlib.Core.Option.{some}
 use lib.ListN.{get_elem?}
 use Rattle.atomic_table.specs.Table.{Step, Me}
@@ -71,7 +71,7 @@ pub record Tells (v : ValueView) (i n : ℕ) : Type 0 where
   -- to a sole pass, what it doesn't hold is free, and it has none of its words
   pub free : (c s : ℕ) → v.claims.counter ≡ Some c → s < v.claims.count → slot_times s v.claims.held ≡ 0 → i ≡ state_at v.claims.count s → (g : ℕ) × (n ≡ 2 * g) × Lacks v (v.fixed + s)
   pub once : IsDistinct v.claims.held
-  pub room : (c : ℕ) → v.claims.counter ≡ Some c → length (drop c v.claims.list) + length v.claims.held ≤ v.claims.count
+  pub whole : claiming.IsSole v.claims → claiming.Accounted (claiming.rewound v.claims)
   pub held_is : map handle_of v.states ≡ v.claims.held
 
 pub record Loaded (s : Step (Unit {0})) (v : Seat) (n : ℕ) (w : Seat) : Type 0 where
@@ -106,9 +106,9 @@ Marked s v n w = (m : ℕ) → s.word ≡ state_at v.0.claims.count m → w ≡ 
 abbrev pub learned : ℕ → ValueView → ValueView
 learned n v = record v { claims = claiming.learned n v.claims }
 
--- no other pass knows anything that this one shares
+-- no other pass knows anything that this one shares, and none drew an index
 abbrev pub Learned : Step (Unit {0}) → Seat → ℕ → Seat → Type 0
-Learned s v n w = (w ≡ (learned n v.0, v.1)) × (v.0.known ≡ [])
+Learned s v n w = (w ≡ (learned n v.0, v.1)) × (v.0.known ≡ []) × claiming.DrewBelow n v.0.claims
 
 abbrev pub rewound : ValueView → ValueView
 rewound v = record v { claims = claiming.rewound v.claims }

@@ -1,10 +1,10 @@
 -- The rule of a table of values.
-use Rattle.std.specs.Prelude.{◌≡◌, ◌≢◌, ℕ, suc, ◌+◌, ◌-◌, ◌*◌, ◌<◌, ◌≤◌, List, map, length, true, Option, Some, sum_by, IfSome}
+use Rattle.std.specs.Prelude.{◌≡◌, ℕ, suc, ◌+◌, ◌-◌, ◌*◌, ◌<◌, ◌≤◌, List, map, length, true, Option, Some, sum_by, IfSome}
 use mathlib.Core.Option.{some}
 use lib.ListN.{get_elem?}
 use Rattle.psac_ops.specs.declared.plain.Handle.{Handle}
 use Rattle.psac_slots.specs.Handles.{Member, slot_times}
-use Rattle.psac_slots.specs.Divided.{Ways, Rights, Divided}
+use Rattle.psac_slots.specs.Divided.{Ways, Rights, Divided, Met}
 use Rattle.psac_slots.specs.declared.view.ClaimView.{ClaimView}
 use Rattle.psac_slots.specs.Claiming as claiming
 use Rattle.psac_values.specs.declared.view.OwnedView.{OwnedView}
@@ -57,12 +57,9 @@ pub record Stated (count : ℕ) (words : List ℕ) (t : StateView) : Type 0 wher
   pub low : t.of.slot < count
   pub stands : get_elem? words (state_at count t.of.slot) ≡ some t.word
 
--- what two passes had when they were joined: nothing of one that the other may write, and what both knew is the same
-pub record Meeting (m : MetView) : Type 0 where
-  pub alone : (w x : OwnedView) → Member w m.left → Member x m.right → w.of.slot ≢ x.of.slot
-  pub left : (w : OwnedView) (e : KnownView) → Member w m.left → Member e m.known_right → e.of.slot ≢ w.of.slot
-  pub right : (w : OwnedView) (e : KnownView) → Member w m.right → Member e m.known_left → e.of.slot ≢ w.of.slot
-  pub same : (e : KnownView) → Member e m.known_right → Member e m.known_left
+-- what two passes had when they were joined
+abbrev pub Meeting : MetView → Type 0
+Meeting m = Met ways m.left m.right m.known_left m.known_right
 
 -- what the rule says of one view
 pub record Fits (fixed count : ℕ) (words : List ℕ) (v : ValueView) : Type 0 where

@@ -217,12 +217,13 @@ impl Values {
         }
     }
 
-    /// The pass, whose forks were all joined again, is sole: it knows the counter, and shares nothing.
+    /// The pass, whose forks were all joined again, is sole: it knows the counter, drew each index below it once, and
+    /// shares nothing.
     pub fn regain(&self, pass: ValuePass) -> ValuePass
         requires table { pass.table ≡ self.now }
         requires joined { pass.knows.claims.branch ≡ [] }
         ensures table { result.table ≡ pass.table }
-        ensures counter { (n : ℕ) × (result.knows ≡ learned n pass.knows) }
+        ensures counter { (n : ℕ) × (result.knows ≡ learned n pass.knows) × claiming.DrewBelow n pass.knows.claims }
         ensures alone { result.knows.known ≡ [] }
     {
         let ValuePass {
@@ -262,13 +263,14 @@ impl Values {
         word == 2 * u64::from(m.generation) + 1
     }
 
-    /// The counter is 0 again, and the free list is what was left of it, in its order.
+    /// The counter is 0 again, and the free list is what was left of it, in its order. Each made slot is in the list or
+    /// held, and in one of them.
     pub fn rewind(&self, pass: &mut ValuePass)
         requires table { pass.old.table ≡ self.now }
         requires sole { claiming.IsSole pass.old.knows.claims }
         ensures table { pass.new.table ≡ pass.old.table }
         ensures rewound { pass.new.knows ≡ rewound pass.old.knows }
-        ensures room { length pass.new.knows.claims.list + length pass.new.knows.claims.held ≤ pass.new.knows.claims.count }
+        ensures whole { claiming.Accounted pass.new.knows.claims }
     {
         let counter = self.table.shared.load::<Loads>(&mut pass.seat, 0);
         self.table.shared.store::<Rewinds>(&mut pass.seat, 0, 0);
@@ -285,6 +287,7 @@ impl Values {
         requires next { m.generation < 4294967295 }
         ensures table { pass.new.table ≡ pass.old.table }
         ensures gave { pass.new.knows ≡ gave (claimed_as m pass.old.knows) (rewound pass.old.knows) }
+        ensures whole { claiming.Accounted pass.new.knows.claims }
     {
         self.rewind(pass);
         self.put_back(pass, m);
@@ -298,6 +301,7 @@ impl Values {
         requires next { (h : Handle) → Member h pass.old.knows.claims.held → h.generation < 4294967295 }
         ensures table { pass.new.table ≡ pass.old.table }
         ensures gave { pass.new.knows ≡ gave_all (rewound pass.old.knows) }
+        ensures whole { claiming.Accounted pass.new.knows.claims }
     {
         self.rewind(pass);
         let count = pass.count;
@@ -312,10 +316,10 @@ impl Values {
         requires begun { pass.old.knows.claims.counter ≡ Some 0 }
         requires below { slot < pass.old.knows.claims.count }
         requires next { (h : Handle) → Member h pass.old.knows.claims.held → h.generation < 4294967295 }
-        requires room { length pass.old.knows.claims.list + length pass.old.knows.claims.held ≤ pass.old.knows.claims.count }
+        requires whole { claiming.Accounted pass.old.knows.claims }
         ensures table { pass.new.table ≡ pass.old.table }
         ensures gave { pass.new.knows ≡ gave_slot slot pass.old.knows }
-        ensures room { length pass.new.knows.claims.list + length pass.new.knows.claims.held ≤ pass.new.knows.claims.count }
+        ensures whole { claiming.Accounted pass.new.knows.claims }
     {
         let state = pass.count as usize + slot as usize + 1;
         let word = self.table.shared.load::<Loads>(&mut pass.seat, state);
@@ -334,9 +338,10 @@ impl Values {
         requires begun { pass.old.knows.claims.counter ≡ Some 0 }
         requires out { IsOut m pass.old.knows }
         requires next { m.generation < 4294967295 }
-        requires room { length pass.old.knows.claims.list + length pass.old.knows.claims.held ≤ pass.old.knows.claims.count }
+        requires whole { claiming.Accounted pass.old.knows.claims }
         ensures table { pass.new.table ≡ pass.old.table }
         ensures gave { pass.new.knows ≡ gave (claimed_as m pass.old.knows) pass.old.knows }
+        ensures whole { claiming.Accounted pass.new.knows.claims }
     {
         let slot = m.slot - pass.fixed;
         let generation = u64::from(m.generation) + 1;

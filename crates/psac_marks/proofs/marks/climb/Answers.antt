@@ -1,7 +1,7 @@
-use Rattle.std.proofs.Common.{subst, ◌∙◌, refl, arith}
+use Rattle.std.proofs.Common.{◌≡◌, subst, ◌∙◌, refl, arith}
 use Rattle.psac_slots.specs.Handles.{Member}
 use Rattle.psac_marks.specs.declared.view.MarksView.{MarksView}
-use Rattle.psac_marks.specs.Marked.{places}
+use Rattle.psac_marks.specs.Marked.{Place, places}
 use Rattle.psac_marks.specs.Passes.{RaisedOne}
 use Rattle.psac_marks.proofs.Climbing.{begins, stands, goes_up, ends}
 use Rattle.psac_marks.proofs.marks.climb.Goals as goal
@@ -26,18 +26,15 @@ raise_one-requires-clause-kept c = (stands _ _ _ _ c.loop-above.invariant.2).5
 pub loop-above-smaller : goal.loop-above-smaller
 loop-above-smaller c =
     let m = c.loop-above.invariant.2 in
-    let s = stands _ _ _ _ m in
-    (goes_up _ _ _ _ m c.raise_one.new.seat.me.0 c.in-Some.above (c.in-Some.ensures.raised s.0 s.4 s.3)).1
+    (goes_up _ _ _ _ m c.raise_one.new.seat.me.0 c.in-Some.above c.in-Some.ensures.raised).1
 
 pub loop-above-preserved : goal.loop-above-preserved
 loop-above-preserved c =
     let i = c.loop-above.invariant in
-    let s = stands _ _ _ _ i.2 in
-    let r = goes_up _ _ _ _ i.2 c.raise_one.new.seat.me.0 c.in-Some.above (c.in-Some.ensures.raised s.0 s.4 s.3) in
+    let r = goes_up _ _ _ _ i.2 c.raise_one.new.seat.me.0 c.in-Some.above c.in-Some.ensures.raised in
     (c.in-Some.ensures.seat.0 ∙ i.0, c.in-Some.ensures.seat.1 ∙ i.1, r.0)
 
 pub returns-clause-raised : goal.returns-clause-raised
 returns-clause-raised c =
     let m = c.loop-above.invariant.2 in
-    let s = stands _ _ _ _ m in
-    ends _ _ _ _ m c.raise_one.new.seat.me.0 c.requires.idle (subst (λ o. RaisedOne c.loop-above.seat.me.0 s.0 o c.raise_one.new.seat.me.0) c.in_default.is (c.raise_one.ensures.raised s.0 s.4 s.3))
+    ends _ _ _ _ m c.raise_one.new.seat.me.0 c.requires.idle (subst (λ o. (e : Place) → Member e (places c.loop-above.seat.me.0) → e.node.slot ≡ c.loop-above.slot → RaisedOne c.loop-above.seat.me.0 e o c.raise_one.new.seat.me.0) c.in_default.is c.raise_one.ensures.raised)

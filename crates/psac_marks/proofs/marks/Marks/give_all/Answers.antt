@@ -1,7 +1,7 @@
-use Rattle.std.proofs.Common.{◌≡◌, suc, ◌+◌, ◌<◌, ◌≤◌, map, length, sym, ap, subst, ◌∙◌, ⊎_elim, arith}
+use Rattle.std.proofs.Common.{◌≡◌, suc, ◌+◌, ◌<◌, map, sym, ap, subst, ◌∙◌, ⊎_elim, arith}
 use Rattle.psac_ops.specs.declared.plain.Handle.{Handle}
 use Rattle.psac_slots.specs.Handles.{Member, slot_times}
-use Rattle.psac_slots.specs.Claiming.{times}
+use Rattle.psac_slots.specs.Claiming.{times, Accounted}
 use Rattle.psac_slots.proofs.Pairs.{member_filter}
 use Rattle.psac_marks.specs.declared.view.MarksView.{MarksView}
 use Rattle.psac_marks.specs.Marked.{handle_of}
@@ -32,7 +32,7 @@ loop-slot-init c =
             (λ h m. let l = held_below _ _ _ _ c.pass.inside.seat.me.0 p h (subst (λ (u : MarksView). Member h u.claims.held) (sym is) m) in let n = p.nodes_is in let k = ap (λ (u : MarksView). u.claims.count) is in omega (arith, l, n, k)),
         e ∙ sym (begins (dropping xs w)),
       ),
-      subst (λ (u : MarksView). length u.claims.list + length u.claims.held ≤ u.claims.count) (sym e) (subst (λ (u : MarksView). length u.claims.list + length u.claims.held ≤ u.claims.count) r.rewound r.room),
+      subst (λ (u : MarksView). Accounted u.claims) (sym e) (subst (λ (u : MarksView). Accounted u.claims) r.rewound r.whole),
     )
 
 pub give_slot-requires-clause-children : goal.give_slot-requires-clause-children
@@ -62,7 +62,7 @@ loop-slot-preserved c =
             g.gave
             ∙ ap (λ k. gave_below k v) one,
       ),
-      g.room,
+      g.whole,
     )
 
 pub returns-clause-gave : goal.returns-clause-gave

@@ -1,4 +1,5 @@
-use Rattle.std.proofs.Common.{◌≡◌, ℕ, ◌+◌, ◌≤◌, List, length}
+use Rattle.std.proofs.Common.{◌≡◌, ℕ, List}
+use Rattle.psac_slots.specs.Claiming.{Accounted}
 use Rattle.psac_marks.specs.Steps.{dropping, rewound}
 use Rattle.psac_marks.proofs.GivingAll.{gave_below, Ready}
 use Rattle.psac_marks.proofs.marks.Marks.give_all.Given as goal
@@ -7,4 +8,4 @@ abbrev pub invariant-loop-slot : goal.invariant-loop-slot
 invariant-loop-slot l =
     (l.pass.table ≡ l.fn.pass.table)
     × ((xs : List ℕ) × Ready (dropping xs (rewound l.fn.pass.knows)) × (l.pass.knows ≡ gave_below l.slot (dropping xs (rewound l.fn.pass.knows))))
-    × (length l.pass.knows.claims.list + length l.pass.knows.claims.held ≤ l.pass.knows.claims.count)
+    × Accounted l.pass.knows.claims

@@ -1,12 +1,16 @@
-use Rattle.std.proofs.Common.{ℕ, sym, ap, subst, ◌∙◌, arith}
+use Rattle.std.proofs.Common.{◌≡◌, ◌<◌, ℕ, sym, ap, subst, ◌∙◌, arith, Option, None}
+use Rattle.std.specs.Prelude.{IfSome}
 use Rattle.atomic_table.proofs.Lists.{set_else}
 use Rattle.psac_slots.specs.Handles.{Member}
+use Rattle.psac_slots.specs.Claiming.{times}
+use Rattle.psac_marks.specs.declared.view.SharedView.{SharedView}
+use Rattle.psac_marks.specs.declared.view.MetView.{MetView}
 use Rattle.psac_marks.specs.declared.view.MarksView.{MarksView}
-use Rattle.psac_marks.specs.Marked.{places}
-use Rattle.psac_marks.specs.Steps.{joined, IsClosed}
-use Rattle.psac_marks.specs.Passes.{Carries}
-use Rattle.psac_marks.proofs.Acts.{loads}
-use Rattle.psac_marks.proofs.Uniting.{joins_at}
+use Rattle.psac_marks.specs.Marked.{places, HasOwn, Meeting}
+use Rattle.psac_marks.specs.Steps.{joined, met, IsClosed}
+use Rattle.psac_marks.specs.Passes.{Carries, United}
+use Rattle.psac_marks.proofs.Acts.{settles}
+use Rattle.psac_marks.proofs.Uniting.{joins_at, unites_views}
 use Rattle.psac_marks.proofs.Handed.{carries_joined}
 use Rattle.psac_marks.proofs.marks.Marks.join.Goals as goal
 
@@ -26,7 +30,7 @@ join_seat-requires c =
       c.right.invariant.0,
       omega (arith, w, z),
       λ s h at two there. joins_at _ s.words s.views h _ _ c.left.inside.seat.me.0 c.right.inside.seat.me.0 b.0 at
-          (sym (set_else s.views _ _ (joined c.left.inside.seat.me.0 c.right.inside.seat.me.0) two) ∙ there) two p.live q.live (ap (λ p. p.knows.claims.branch) il ∙ b.1) (ap (λ p. p.knows.claims.branch) ir ∙ b.2) p.climb q.climb,
+          (sym (set_else s.views _ _ (met c.left.inside.seat.me.0 c.right.inside.seat.me.0) two) ∙ there) two p.live q.live (ap (λ p. p.knows.claims.branch) il ∙ b.1) (ap (λ p. p.knows.claims.branch) ir ∙ b.2) p.climb q.climb,
     )
 
 pub load-requires : goal.load-requires
@@ -36,14 +40,14 @@ load-requires c =
     let tl = ap (λ p. p.table) c.left.view_is ∙ (c.requires.table.0 ∙ sym c.self.view_is) in
     let w = ap (λ z. z.words) tl in
     let z = p.words_is in
-    (j.0 ∙ tl, omega (arith, w, z), loads _ _ _ c.join_seat.new.seat.me.0 c.join_seat.new.seat.me.1 (ap (λ m. m.0.claims.live) j.2 ∙ p.live) _)
+    (j.0 ∙ tl, omega (arith, w, z), settles _ _ _ c.join_seat.new.seat.me.0 c.join_seat.new.seat.me.1 (ap (λ m. m.0.claims.live) j.2 ∙ p.live) _)
 
 pub invariant_of-result : goal.invariant_of-result
 invariant_of-result c =
     let j = c.join_seat.ensures in
     let l = c.load.ensures in
     let p = c.left.invariant.1 in
-    let e = l.2.same ∙ j.2 in
+    let e = l.2.settled ∙ ap (λ m. (record m.0 { met = None }, m.1)) j.2 in
     let k = p.nodes_is in
     let b = ap (λ m. m.0.claims.count) j.2 in (
       ap (λ m. m.1) e ∙ c.left.invariant.0,
@@ -53,9 +57,37 @@ invariant_of-result c =
           (λ t has. let a = l.2.tells.state_low t (subst (λ m. Member t m.0.states) (sym j.2) has) in omega (arith, a, b, k))),
     )
 
+pub returns-clause-joined : goal.returns-clause-joined
+returns-clause-joined c =
+    let j = c.join_seat.ensures in
+    let l = c.load.ensures in
+    let kl = ap (λ p. p.knows) c.left.view_is in
+    let kr = ap (λ p. p.knows) c.right.view_is in
+    ap (λ m. m.0) l.2.settled ∙ (ap (λ m. record m.0 { met = None }) j.2 ∙ (λ i. joined (kl i) (kr i)))
+
+pub returns-clause-united : goal.returns-clause-united
+returns-clause-united c =
+    let j = c.join_seat.ensures in
+    let kl = ap (λ p. p.knows) c.left.view_is in
+    let kr = ap (λ p. p.knows) c.right.view_is in
+    let m = subst (λ (o : Option MetView). IfSome o Meeting) (ap (λ m. m.0.met) j.2) c.load.ensures.2.meeting in
+    let u = unites_views c.left.inside.seat.me.0 c.right.inside.seat.me.0 m in
+    subst (λ (x : MarksView × MarksView × MarksView). United x.0 x.1 x.2) (λ i. (kl i, kr i, (sym (returns-clause-joined c ∙ (λ k. joined (sym kl k) (sym kr k)))) i)) u
+
 pub returns-clause-closed : goal.returns-clause-closed
 returns-clause-closed c =
     let j = c.join_seat.ensures in
     let l = c.load.ensures in
     let p = c.left.invariant.1 in
-    subst IsClosed (sym (ap (λ m. m.0) l.2.same)) (l.2.tells.closed (ap (λ m. m.0.climb) j.2 ∙ p.climb))
+    let k = l.2.tells.closed (ap (λ m. m.0.climb) j.2 ∙ p.climb) in
+    subst IsClosed (sym (ap (λ m. m.0) l.2.settled)) record { upwards = k.upwards; busy = k.busy }
+
+pub returns-clause-dropped : goal.returns-clause-dropped
+returns-clause-dropped c =
+    let l = c.load.ensures in
+    subst (λ (v : MarksView). (x : ℕ) → 0 < times x v.dropped → HasOwn v.own x) (sym (ap (λ m. m.0) l.2.settled)) (λ x p. l.2.tells.dropped x p)
+
+pub returns-clause-kept : goal.returns-clause-kept
+returns-clause-kept c =
+    let l = c.load.ensures in
+    subst (λ (v : MarksView). (e : SharedView) → Member e v.shared → times e.node.slot v.dropped ≡ 0) (sym (ap (λ m. m.0) l.2.settled)) (λ e m. l.2.tells.kept e m)

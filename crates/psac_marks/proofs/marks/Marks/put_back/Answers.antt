@@ -1,7 +1,7 @@
-use Rattle.std.proofs.Common.{◌≡◌, ◌≤◌, ℕ, suc, ◌+◌, ◌*◌, ◌%◌, ◌<◌, length, refl, sym, ap, subst, ◌∙◌, arith, mod-lt, Option, None, Some}
+use Rattle.std.proofs.Common.{◌≡◌, ℕ, suc, ◌+◌, ◌*◌, ◌%◌, ◌<◌, length, refl, sym, ap, subst, ◌∙◌, arith, mod-lt, Option, None, Some}
 use Rattle.psac_ops.specs.declared.plain.Handle.{Handle}
 use Rattle.psac_slots.specs.Handles.{Member, word_of, later}
-use Rattle.psac_slots.specs.Claiming.{place}
+use Rattle.psac_slots.specs.Claiming.{place, Accounted}
 use Rattle.psac_marks.specs.declared.view.MarksView.{MarksView}
 use Rattle.psac_marks.specs.Marked.{free_word, own_place, HasOwn}
 use Rattle.psac_marks.specs.Steps.{hung, stated, gave, released}
@@ -11,7 +11,7 @@ use Rattle.psac_marks.proofs.Keeps.{own_alone}
 use Rattle.psac_marks.proofs.Families.{bare_below}
 use Rattle.psac_marks.proofs.Acts.{clears, hangs, states}
 use Rattle.psac_marks.proofs.Giving.{gives, MayGo}
-use Rattle.psac_marks.proofs.Going.{leaving, bare, state_of, may_go, released_is, has_room, released_room, carries_released}
+use Rattle.psac_marks.proofs.Going.{leaving, bare, state_of, may_go, released_is, has_room, released_whole, carries_released}
 use Rattle.psac_marks.proofs.marks.Marks.put_back.Goals as goal
 
 one_more : (n : ℕ) → n + 1 ≡ suc n
@@ -104,7 +104,7 @@ store-requires-4 c =
     let has = subst (λ (u : MarksView). Member g u.claims.held) (sym is) c.requires.out in
     let own = subst (λ k. Owns k g) (sym is) c.requires.own in
     let free = subst (λ k. Childless k x) (sym is) c.requires.children in
-    let fit = subst (λ (u : MarksView). length u.claims.list + length u.claims.held ≤ u.claims.count) (sym is) c.requires.room in
+    let fit = subst (λ (u : MarksView). Accounted u.claims) (sym is) c.requires.whole in
     let room = has_room _ _ _ _ v p g has fit in
     let s1 = c.store.ensures in
     let v1 = ap (λ m. m.0) (s1.2 x (omega (arith, n))) in
@@ -145,15 +145,15 @@ returns-clause-gave c =
     let stored : (c.from-generation.result + 1) * 4294967296 + c.from-4.result ≡ word_of (later g) = omega (arith, ga, q4) in
     ap (λ m. m.0) (c.store-4.ensures.2 g (subst (λ (u : MarksView). Member g u.claims.held) (sym v3) has) c.requires.next stored) ∙ (ap (gave g) v3 ∙ (released_is g v ∙ ap (released g) is))
 
-pub returns-clause-room : goal.returns-clause-room
-returns-clause-room c =
+pub returns-clause-whole : goal.returns-clause-whole
+returns-clause-whole c =
     let is = ap (λ p. p.knows) c.pass.view_is in
     let p = c.pass.invariant.1 in
     let v = c.pass.inside.seat.me.0 in
     let g = c.args.node in
     let has = subst (λ (u : MarksView). Member g u.claims.held) (sym is) c.requires.out in
-    let fit = subst (λ (u : MarksView). length u.claims.list + length u.claims.held ≤ u.claims.count) (sym is) c.requires.room in
-    subst (λ (u : MarksView). length u.claims.list + length u.claims.held ≤ u.claims.count) (ap (released g) is ∙ sym (returns-clause-gave c)) (released_room _ _ _ _ v p g has fit)
+    let fit = subst (λ (u : MarksView). Accounted u.claims) (sym is) c.requires.whole in
+    subst (λ (u : MarksView). Accounted u.claims) (ap (released g) is ∙ sym (returns-clause-gave c)) (released_whole g v has fit)
 
 pub invariant_of-pass : goal.invariant_of-pass
 invariant_of-pass c =
@@ -164,7 +164,7 @@ invariant_of-pass c =
     let x = c.args.node.slot in
     let n = p.nodes_is in
     let has = subst (λ (u : MarksView). Member g u.claims.held) (sym is) c.requires.out in
-    let fit = subst (λ (u : MarksView). length u.claims.list + length u.claims.held ≤ u.claims.count) (sym is) c.requires.room in
+    let fit = subst (λ (u : MarksView). Accounted u.claims) (sym is) c.requires.whole in
     let e1 = c.store.ensures.2 x (omega (arith, n)) in
     let v1 = ap (λ m. m.0) e1 in
     let n1 = ap (λ (u : MarksView). u.claims.count) v1 in

@@ -1,9 +1,9 @@
-use Rattle.std.proofs.Common.{ℕ, ◌≡◌, Some, sym, ap, subst, ◌∙◌, arith, refl, ◌≤◌, ◌+◌, ◌-◌, List, length, take, drop}
+use Rattle.std.proofs.Common.{ℕ, ◌≡◌, Some, sym, ap, subst, ◌∙◌, arith, refl, ◌+◌, ◌-◌, List, length, take}
 use Rattle.psac_ops.specs.declared.plain.Handle.{Handle}
-use Rattle.psac_slots.specs.Claiming.{IsSole, counted, turned}
+use Rattle.psac_slots.specs.Claiming.{IsSole, Accounted, counted, turned}
 use Rattle.psac_slots.proofs.Rewinds.{parts}
 use Rattle.psac_marks.specs.declared.view.MarksView.{MarksView}
-use Rattle.psac_marks.specs.Steps.{rewound, Holds}
+use Rattle.psac_marks.specs.Steps.{rewound, Holds, IsClosed}
 use Rattle.psac_marks.specs.Passes.{Carries}
 use Rattle.psac_marks.proofs.Acts.{loads}
 use Rattle.psac_marks.proofs.Regaining.{rewinds}
@@ -47,13 +47,11 @@ turned_back-pass-inside-requires c =
     let y = c.from-2.ensures in
     omega (arith, g, t, a, b, d, x, y)
 
-pub returns-clause-room : goal.returns-clause-room
-returns-clause-room c =
+pub returns-clause-whole : goal.returns-clause-whole
+returns-clause-whole c =
     let l = c.load-counter.ensures.2 in
     let e = ap (λ m. m.0) c.store.ensures.2 ∙ ap (λ m. rewound m.0) l.same in
-    let sole = subst (λ (v : MarksView). IsSole v.claims) (sym (ap (λ p. p.knows) c.pass.view_is)) c.requires.sole in
-    let v = c.pass.inside.seat.me.0 in
-    subst (λ (w : MarksView). length w.claims.list + length w.claims.held ≤ w.claims.count) (sym e) (subst (λ (k : ℕ). length (drop k v.claims.list) + length v.claims.held ≤ v.claims.count) (sym (ap counted sole.1)) (l.tells.room sole.0 sole.1))
+    subst (λ (v : MarksView). Accounted v.claims) (sym e) (l.tells.whole (subst (λ (v : MarksView). IsSole v.claims) (sym (ap (λ p. p.knows) c.pass.view_is)) c.requires.sole))
 
 pub returns-clause-holds : goal.returns-clause-holds
 returns-clause-holds c =
@@ -61,6 +59,13 @@ returns-clause-holds c =
     let e = ap (λ m. m.0) c.store.ensures.2 ∙ ap (λ m. rewound m.0) l.same in
     let sole = subst (λ (v : MarksView). IsSole v.claims) (sym (ap (λ p. p.knows) c.pass.view_is)) c.requires.sole in
     subst Holds (sym e) (holds_rewound c.pass.inside.seat.me.0 (l.tells.holds sole.0 sole.1))
+
+pub returns-clause-closed : goal.returns-clause-closed
+returns-clause-closed c =
+    let l = c.load-counter.ensures.2 in
+    let e = ap (λ m. m.0) c.store.ensures.2 ∙ ap (λ m. rewound m.0) l.same in
+    let k = l.tells.closed c.pass.invariant.1.climb in
+    subst IsClosed (sym e) record { upwards = k.upwards; busy = k.busy }
 
 pub invariant_of-pass : goal.invariant_of-pass
 invariant_of-pass c =

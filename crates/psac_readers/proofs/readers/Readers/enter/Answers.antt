@@ -1,6 +1,8 @@
 use Rattle.std.proofs.Common.{◌≡◌, ℕ, ◌<◌, ◌+◌, ◌%◌, length, sym, ap, subst, refl, ◌∙◌, arith, mod-lt, cond, ltb}
 use Rattle.std.proofs.lemmas.Bool.{lt-ltb}
 use Rattle.psac_readers.specs.Steps.{Has, drew, entered}
+use Rattle.std.specs.Prelude.{sum_by}
+use Rattle.psac_readers.specs.Chained.{named}
 use Rattle.psac_readers.specs.Passes.{Carries}
 use Rattle.psac_slots.specs.Claiming.{entry}
 use Rattle.psac_readers.proofs.Acts.{draws, loads, nodes, swaps, comes}
@@ -172,6 +174,16 @@ returns-clause-ok c =
     let v5 = last v n c.load-word.result c.args.m.slot c.node_word.result c.swap-old.result _ _ _ _ g e3 e4 e5 in
     let is = ap (λ p. p.knows) c.pass.view_is in
     (n, subst (λ x. n < length x.claims.list) is (omega (arith, r, q, b)), (handle_of c.load-word.result, sym (ap (λ x. entry x.claims.list n) is) ∙ g.entry, refl), ap (λ m. m.0) v5 ∙ (λ j. entered (is j) n c.args.m.slot (c.node_word.ensures j) (c.load-word.result % 4294967296)))
+
+pub returns-clause-new : goal.returns-clause-new
+returns-clause-new c =
+    let p = c.pass.invariant.1 in
+    let n = c.fetch_add-index.result in
+    let r = c.if-index-room.false in
+    let q = c.from-room.ensures in
+    let b = p.room_is in
+    let g = got _ _ n c.load-word.result c.pass.inside.seat.me.0 _ _ (c.fetch_add-index.ensures.2 ∙ ap (λ z. (drew c.pass.inside.seat.me.0 n, z)) c.pass.invariant.0) c.load-word.ensures.2 (place_is _ _ n _ _ (c.from.ensures ∙ sym p.head_is) (c.from-2.ensures ∙ sym p.links_is)) (omega (arith, r, q, b)) in
+    subst (λ x. sum_by (named (c.load-word.result % 4294967296)) x.links ≡ 0) (ap (λ p. p.knows) c.pass.view_is) g.new
 
 -- an enter below the room leaves the pass with no index past it
 within : (n over room : ℕ) → n < room → over ≡ 0 → over + cond (ltb n room) 0 1 ≡ 0

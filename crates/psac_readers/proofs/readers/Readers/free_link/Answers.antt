@@ -1,7 +1,8 @@
-use Rattle.std.proofs.Common.{ℕ, ◌≡◌, ◌<◌, ◌≤◌, ◌+◌, ◌%◌, suc, sym, ap, subst, ◌∙◌, arith, length, Some, mod-lt, true, ◌++◌, ◌∷◌}
+use Rattle.std.proofs.Common.{ℕ, ◌≡◌, ◌<◌, ◌+◌, ◌%◌, suc, sym, ap, subst, ◌∙◌, arith, length, Some, mod-lt, true, ◌++◌, ◌∷◌}
 use Rattle.std.specs.Prelude.{sum_by}
 use Rattle.psac_slots.specs.Handles as handles
 use Rattle.psac_slots.specs.Claiming.{place as place_of}
+use Rattle.psac_slots.specs.Claiming.{Accounted}
 use Rattle.psac_readers.specs.declared.view.ReadersView.{ReadersView}
 use Rattle.psac_readers.specs.Chained.{named, alive, mods_of, head_at, Each}
 use Rattle.psac_readers.specs.Steps.{revived, unlinked, freed, swept_one, chain_of, led_from, Fine}
@@ -139,7 +140,7 @@ overflow_add-pass c =
     let s3 = c.store-2.ensures.2 l (omega (arith, q4)) in
     let e3 = s3.0 ∙ ap (λ m. (freed l m.0, m.1)) e2 in
     let held = subst (λ (u : ReadersView). 0 < handles.slot_times l u.claims.held) (sym f2) s3.1 in
-    let r = room_after l v held (subst (λ (u : ReadersView). length u.claims.list + length u.claims.held ≤ u.claims.count) (sym iv) c.requires.room) in
+    let r = room_after l v held (subst (λ (u : ReadersView). Accounted u.claims) (sym iv) c.requires.whole) in
     let less = r.0 in
     let ro = p.room_is in
     let sm = p.small in
@@ -173,7 +174,7 @@ invariant_of-pass c =
     let s3 = c.store-2.ensures.2 l (omega (arith, q4)) in
     let e3 = s3.0 ∙ ap (λ m. (freed l m.0, m.1)) e2 in
     let held = subst (λ (u : ReadersView). 0 < handles.slot_times l u.claims.held) (sym f2) s3.1 in
-    let r = room_after l v held (subst (λ (u : ReadersView). length u.claims.list + length u.claims.held ≤ u.claims.count) (sym iv) c.requires.room) in
+    let r = room_after l v held (subst (λ (u : ReadersView). Accounted u.claims) (sym iv) c.requires.whole) in
     let view = ap (λ m. m.0) e3 ∙ freed_all l v in
     (ap (λ m. m.1) e3 ∙ c.pass.invariant.0, subst (λ (x : ℕ × ReadersView). Carries c.pass.inside.links c.pass.inside.mods c.pass.inside.head (c.pass.inside.room + 1) x.0 x.1) (λ j. (ap (λ z. z.words) (sym (c.store-2.ensures.0 ∙ (c.swap.ensures.0 ∙ c.store.ensures.0))) j, sym view j)) (carries_swept _ _ _ _ _ l v p r.0))
 
@@ -205,11 +206,11 @@ returns-clause-freed c =
     let s3 = c.store-2.ensures.2 l (omega (arith, q4)) in
     let e3 = s3.0 ∙ ap (λ m. (freed l m.0, m.1)) e2 in
     let held = subst (λ (u : ReadersView). 0 < handles.slot_times l u.claims.held) (sym f2) s3.1 in
-    let r = room_after l v held (subst (λ (u : ReadersView). length u.claims.list + length u.claims.held ≤ u.claims.count) (sym iv) c.requires.room) in
+    let r = room_after l v held (subst (λ (u : ReadersView). Accounted u.claims) (sym iv) c.requires.whole) in
     ap (λ m. m.0) e3 ∙ (freed_all l v ∙ ap (swept_one l) iv)
 
-pub returns-clause-room : goal.returns-clause-room
-returns-clause-room c =
+pub returns-clause-whole : goal.returns-clause-whole
+returns-clause-whole c =
     let is = c.pass.view_is in
     let iv = ap (λ p. p.knows) is in
     let p = c.pass.invariant.1 in
@@ -236,5 +237,5 @@ returns-clause-room c =
     let s3 = c.store-2.ensures.2 l (omega (arith, q4)) in
     let e3 = s3.0 ∙ ap (λ m. (freed l m.0, m.1)) e2 in
     let held = subst (λ (u : ReadersView). 0 < handles.slot_times l u.claims.held) (sym f2) s3.1 in
-    let r = room_after l v held (subst (λ (u : ReadersView). length u.claims.list + length u.claims.held ≤ u.claims.count) (sym iv) c.requires.room) in
-    subst (λ (u : ReadersView). length u.claims.list + length u.claims.held ≤ u.claims.count) (sym (ap (λ m. m.0) e3 ∙ freed_all l v)) r.1
+    let r = room_after l v held (subst (λ (u : ReadersView). Accounted u.claims) (sym iv) c.requires.whole) in
+    subst (λ (u : ReadersView). Accounted u.claims) (sym (ap (λ m. m.0) e3 ∙ freed_all l v)) r.1

@@ -1,9 +1,10 @@
 use Rattle.std.proofs.Common.{ℕ, ◌≡◌, ◌+◌, suc, sym, ap, subst, ◌∙◌, arith}
 use Rattle.psac_slots.specs.Handles.{Member}
 use Rattle.psac_readers.specs.declared.view.ReadersView.{ReadersView}
-use Rattle.psac_readers.specs.Steps.{rewound}
+use Rattle.psac_readers.specs.Steps.{rewound, Fine, Holds}
+use Rattle.psac_readers.specs.Chained.{Each}
 use Rattle.psac_readers.specs.Swept.{AllGiven}
-use Rattle.psac_readers.proofs.Sweeping.{one_given}
+use Rattle.psac_readers.proofs.Sweeping.{one_given, all_gone}
 use Rattle.psac_readers.proofs.readers.Readers.give_all.Goals as goal
 
 pub take_off-requires-clause-walk : goal.take_off-requires-clause-walk
@@ -21,4 +22,14 @@ pub loop-m-preserved : goal.loop-m-preserved
 loop-m-preserved c =
     let i = c.loop-m.invariant in
     let t = c.take_off.ensures in
-    (t.table ∙ i.0, t.begun, subst (λ n. AllGiven n (rewound c.args.pass.now.knows) c.take_off.new.pass.knows) (one_more c.loop-m.m) (one_given c.loop-m.m (rewound c.args.pass.now.knows) c.loop-m.pass.knows c.take_off.new.pass.knows i.2 t.taken), t.room)
+    (t.table ∙ i.0, t.begun, subst (λ n. AllGiven n (rewound c.args.pass.now.knows) c.take_off.new.pass.knows) (one_more c.loop-m.m) (one_given c.loop-m.m (rewound c.args.pass.now.knows) c.loop-m.pass.knows c.take_off.new.pass.knows i.2 t.taken), t.whole)
+
+pub returns-clause-empty : goal.returns-clause-empty
+returns-clause-empty c =
+    let i = c.pass.view_is in
+    let e = ap (λ p. p.knows) i ∙ c.rewind.ensures.rewound in
+    let t = c.loop-m-test.false in
+    let m = c.pass.invariant.1.mods_is in
+    let k = ap (λ (u : ReadersView). u.mods) e in
+    all_gone c.pass.inside.links c.loop-m.m (rewound c.args.pass.now.knows) c.loop-m.pass.knows (subst (λ (u : ReadersView). Each (Fine c.pass.inside.links) u.links) e c.pass.invariant.1.fine) (subst Holds c.rewind.ensures.rewound c.rewind.ensures.holds)
+    (omega (arith, t, m, k)) c.loop-m.invariant.2

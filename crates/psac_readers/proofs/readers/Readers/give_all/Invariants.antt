@@ -1,7 +1,8 @@
-use Rattle.std.proofs.Common.{◌≡◌, ◌+◌, ◌≤◌, length, Some}
+use Rattle.std.proofs.Common.{◌≡◌, Some}
+use Rattle.psac_slots.specs.Claiming.{Accounted}
 use Rattle.psac_readers.specs.Steps.{rewound}
 use Rattle.psac_readers.specs.Swept.{AllGiven}
 use Rattle.psac_readers.proofs.readers.Readers.give_all.Given as goal
 
 abbrev pub invariant-loop-m : goal.invariant-loop-m
-invariant-loop-m l = (l.pass.table ≡ l.fn.pass.table) × (l.pass.knows.claims.counter ≡ Some 0) × AllGiven l.m (rewound l.fn.pass.knows) l.pass.knows × (length l.pass.knows.claims.list + length l.pass.knows.claims.held ≤ l.pass.knows.claims.count)
+invariant-loop-m l = (l.pass.table ≡ l.fn.pass.table) × (l.pass.knows.claims.counter ≡ Some 0) × AllGiven l.m (rewound l.fn.pass.knows) l.pass.knows × Accounted l.pass.knows.claims

@@ -1,4 +1,4 @@
-use Rattle.std.proofs.Common.{ℕ, ◌<◌, sym, ap, subst, ◌∙◌, arith}
+use Rattle.std.proofs.Common.{ℕ, ◌<◌, ◌≤◌, sym, ap, subst, ◌∙◌, arith}
 use Rattle.atomic_table.proofs.Lists.{set_else}
 use Rattle.psac_readers.specs.declared.view.ReadersView.{ReadersView}
 use Rattle.std.specs.Prelude.{sum_by}
@@ -37,6 +37,9 @@ load-requires c =
     let w = ap (λ z. z.words) tl in
     let z = p.words_is in
     (j.0 ∙ tl, omega (arith, w, z), loads _ _ _ _ c.join_seat.new.seat.me.0 c.join_seat.new.seat.me.1 (ap (λ m. m.0.claims.live) j.2 ∙ p.live) _)
+
+pub returns-clause-once : goal.returns-clause-once
+returns-clause-once c = let l = c.load.ensures.2 in λ x. subst (λ m. sum_by (named x) m.0.links ≤ 1) (sym l.same) (l.once x)
 
 pub invariant_of-result : goal.invariant_of-result
 invariant_of-result c =

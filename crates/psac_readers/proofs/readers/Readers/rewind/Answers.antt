@@ -1,6 +1,8 @@
-use Rattle.std.proofs.Common.{ℕ, ◌≡◌, Some, sym, ap, subst, ◌∙◌, arith, refl, ◌≤◌, ◌+◌, ◌-◌, List, length, take, drop}
-use Rattle.psac_slots.specs.Claiming.{IsSole, counted, turned}
-use Rattle.psac_readers.specs.Steps.{rewound}
+use Rattle.std.proofs.Common.{ℕ, ◌≡◌, Some, sym, ap, subst, ◌∙◌, arith, refl, ◌≤◌, ◌+◌, ◌-◌, List, length, take}
+use Rattle.std.specs.Prelude.{sum_by}
+use Rattle.psac_readers.specs.Chained.{named}
+use Rattle.psac_slots.specs.Claiming.{IsSole, Accounted, counted, turned}
+use Rattle.psac_readers.specs.Steps.{rewound, Holds}
 use Rattle.psac_readers.specs.declared.view.ReadersView.{ReadersView}
 use Rattle.psac_readers.proofs.Acts.{loads, rewinds}
 use Rattle.psac_ops.specs.declared.plain.Handle.{Handle}
@@ -46,13 +48,24 @@ turned_back-pass-inside-requires c =
     let y = c.from-2.ensures in
     omega (arith, g, t, a, b, d, x, y)
 
-pub returns-clause-room : goal.returns-clause-room
-returns-clause-room c =
+pub returns-clause-whole : goal.returns-clause-whole
+returns-clause-whole c =
     let l = c.load-counter.ensures.2 in
     let e = ap (λ m. m.0) c.store.ensures.2 ∙ ap (λ m. rewound m.0) l.same in
-    let sole = subst (λ (v : ReadersView). IsSole v.claims) (sym (ap (λ p. p.knows) c.pass.view_is)) c.requires.sole in
-    let v = c.pass.inside.seat.me.0 in
-    subst (λ (w : ReadersView). length w.claims.list + length w.claims.held ≤ w.claims.count) (sym e) (subst (λ (k : ℕ). length (drop k v.claims.list) + length v.claims.held ≤ v.claims.count) (sym (ap counted sole.1)) (l.room sole.0 sole.1))
+    subst (λ (v : ReadersView). Accounted v.claims) (sym e) (l.whole (subst (λ (v : ReadersView). IsSole v.claims) (sym (ap (λ p. p.knows) c.pass.view_is)) c.requires.sole))
+
+pub returns-clause-once : goal.returns-clause-once
+returns-clause-once c =
+    let l = c.load-counter.ensures.2 in
+    let e = ap (λ m. m.0) c.store.ensures.2 ∙ ap (λ m. rewound m.0) l.same in
+    λ x. subst (λ (v : ReadersView). sum_by (named x) v.links ≤ 1) (sym e) (l.once x)
+
+pub returns-clause-holds : goal.returns-clause-holds
+returns-clause-holds c =
+    let l = c.load-counter.ensures.2 in
+    let e = ap (λ m. m.0) c.store.ensures.2 ∙ ap (λ m. rewound m.0) l.same in
+    let h = l.holds (subst (λ (v : ReadersView). IsSole v.claims) (sym (ap (λ p. p.knows) c.pass.view_is)) c.requires.sole) in
+    subst Holds (sym e) record { held = h.held; inside = h.inside }
 
 pub invariant_of-pass : goal.invariant_of-pass
 invariant_of-pass c =

@@ -1,4 +1,5 @@
-use Rattle.std.proofs.Common.{◌+◌, ◌≤◌, length, sym, ap, subst, ◌∙◌, arith}
+use Rattle.std.proofs.Common.{◌+◌, sym, ap, subst, ◌∙◌, arith}
+use Rattle.psac_slots.specs.Claiming.{Accounted}
 use Rattle.psac_readers.specs.declared.view.ReadersView.{ReadersView}
 use Rattle.psac_readers.specs.Swept.{Going}
 use Rattle.psac_readers.proofs.Sweeping.{sets_out}
@@ -14,7 +15,7 @@ loop-word-init c =
       c.head_of-word.ensures.table,
       ap (λ (u : ReadersView). u.claims.counter) h.1 ∙ c.requires.begun,
       subst (λ u. Going c.args.all w c.args.m u (c.pass.inside.links + c.args.m + 1) c.head_of-word.result) (sym h.1) (sets_out c.args.all w c.args.m (c.pass.inside.links + c.args.m + 1) c.head_of-word.result h.0 c.requires.inside c.requires.walk h.2 h.3 (omega (arith, li, k))),
-      subst (λ (u : ReadersView). length u.claims.list + length u.claims.held ≤ u.claims.count) (sym h.1) c.requires.room,
+      subst (λ (u : ReadersView). Accounted u.claims) (sym h.1) c.requires.whole,
     )
 
 pub loop-word-smaller : goal.loop-word-smaller

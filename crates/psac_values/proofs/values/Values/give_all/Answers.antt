@@ -7,7 +7,7 @@ use Rattle.psac_values.proofs.Giving.{held_from, gave_below, begins, goes_on, en
 use Rattle.psac_values.proofs.values.Values.give_all.Goals as goal
 
 pub loop-slot-init : goal.loop-slot-init
-loop-slot-init c = let r = c.rewind.ensures in (r.table, r.rewound ∙ sym (begins (rewound c.args.pass.now.knows)), r.room)
+loop-slot-init c = let r = c.rewind.ensures in (r.table, r.rewound ∙ sym (begins (rewound c.args.pass.now.knows)), r.whole)
 
 pub give_slot-requires-clause-table : goal.give_slot-requires-clause-table
 give_slot-requires-clause-table c = c.loop-slot.invariant.0 ∙ c.requires.table
@@ -27,8 +27,8 @@ pub give_slot-requires-clause-next : goal.give_slot-requires-clause-next
 give_slot-requires-clause-next c = λ h m.
     c.requires.next h (member_filter (held_from c.loop-slot.slot) h c.args.pass.now.knows.claims.held (subst (λ (u : ValueView). Member h u.claims.held) c.loop-slot.invariant.1 m)).0
 
-pub give_slot-requires-clause-room : goal.give_slot-requires-clause-room
-give_slot-requires-clause-room c = c.loop-slot.invariant.2
+pub give_slot-requires-clause-whole : goal.give_slot-requires-clause-whole
+give_slot-requires-clause-whole c = c.loop-slot.invariant.2
 
 pub loop-slot-preserved : goal.loop-slot-preserved
 loop-slot-preserved c =
@@ -36,7 +36,7 @@ loop-slot-preserved c =
     let i = c.loop-slot.invariant in
     let n = c.loop-slot.slot in
     let one : suc n ≡ n + 1 = omega arith in
-    (g.table ∙ i.0, g.gave ∙ (ap (gave_slot n) i.1 ∙ (goes_on n (rewound c.args.pass.now.knows) ∙ ap (λ k. gave_below k (rewound c.args.pass.now.knows)) one)), g.room)
+    (g.table ∙ i.0, g.gave ∙ (ap (gave_slot n) i.1 ∙ (goes_on n (rewound c.args.pass.now.knows) ∙ ap (λ k. gave_below k (rewound c.args.pass.now.knows)) one)), g.whole)
 
 pub returns-clause-table : goal.returns-clause-table
 returns-clause-table c = c.loop-slot.invariant.0

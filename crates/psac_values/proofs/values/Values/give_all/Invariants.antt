@@ -1,7 +1,8 @@
-use Rattle.std.proofs.Common.{◌≡◌, ◌+◌, ◌≤◌, length}
+use Rattle.std.proofs.Common.{◌≡◌}
+use Rattle.psac_slots.specs.Claiming.{Accounted}
 use Rattle.psac_values.specs.Steps.{rewound}
 use Rattle.psac_values.proofs.Giving.{gave_below}
 use Rattle.psac_values.proofs.values.Values.give_all.Given as goal
 
 abbrev pub invariant-loop-slot : goal.invariant-loop-slot
-invariant-loop-slot l = (l.pass.table ≡ l.fn.pass.table) × (l.pass.knows ≡ gave_below l.slot (rewound l.fn.pass.knows)) × (length l.pass.knows.claims.list + length l.pass.knows.claims.held ≤ l.pass.knows.claims.count)
+invariant-loop-slot l = (l.pass.table ≡ l.fn.pass.table) × (l.pass.knows ≡ gave_below l.slot (rewound l.fn.pass.knows)) × Accounted l.pass.knows.claims

@@ -1,11 +1,11 @@
-use Rattle.std.proofs.Common.{ℕ, ◌-◌, refl, ◌≡◌, ◌+◌, ◌/◌, ◌≤◌, length, sym, ap, subst, ◌∙◌, arith}
+use Rattle.std.proofs.Common.{ℕ, ◌-◌, refl, ◌≡◌, ◌+◌, ◌/◌, sym, ap, subst, ◌∙◌, arith}
 use Rattle.psac_slots.specs.Handles.{Member, IsDistinct}
 use Rattle.psac_values.specs.declared.view.ValueView.{ValueView}
 use Rattle.psac_ops.specs.declared.plain.Handle.{Handle}
 use Rattle.psac_values.specs.Steps.{gave, gave_slot, made_handle}
 use Rattle.psac_values.specs.Knowing.{IsOut, claimed_as}
 use Rattle.psac_values.proofs.Acts.{loads}
-use Rattle.psac_values.proofs.Giving.{was_out, was_free, gave_one, gave_room}
+use Rattle.psac_values.proofs.Giving.{was_out, was_free, gave_one}
 use Rattle.psac_values.proofs.values.Values.give_slot.Goals as goal
 
 pub load-word-requires : goal.load-word-requires
@@ -99,28 +99,8 @@ returns-then-word-eq1-clause-gave c =
     let low = c.requires.next h (subst (λ (u : ValueView). Member h u.claims.held) is o.1) in
     c.put_back.ensures.gave ∙ given c.args.slot c.pass.inside.fixed v.fixed h _ _ v _ same is tells.once o.1 o.2 refl p.fixed_is refl
 
-pub returns-then-word-eq1-clause-room : goal.returns-then-word-eq1-clause-room
-returns-then-word-eq1-clause-room c =
-    let is = ap (λ p. p.knows) c.pass.view_is in
-    let p = c.pass.invariant.1 in
-    let v = c.pass.inside.seat.me.0 in
-    let k = p.count_is in
-    let k' = ap (λ (u : ValueView). u.claims.count) is in
-    let b = c.requires.below in
-    let l = c.load-word.ensures in
-    let same = ap (λ m. m.0) l.2.same in
-    let tells = l.2.tells in
-    let sole = ap (λ (u : ValueView). u.claims.counter) is ∙ c.requires.begun in
-    let o = was_out _ _ _ _ _ v p c.args.slot 0 _ c.load-word.result sole tells (omega (arith, k, k', b)) (omega arith) c.if-word-eq1.true in
-    let h = o.0 in
-    let ge = ap (λ (x : Handle). x.generation) o.2 in
-    let low = c.requires.next h (subst (λ (u : ValueView). Member h u.claims.held) is o.1) in
-    let sl = ap (λ (x : Handle). x.slot) o.2 in
-    let e = c.put_back.ensures.gave ∙ given c.args.slot c.pass.inside.fixed v.fixed h _ _ v _ same is tells.once o.1 o.2 refl p.fixed_is refl in
-    let fx = p.fixed_is in
-    let r = gave_room v h o.1 (subst (λ (u : ValueView). length u.claims.list + length u.claims.held ≤ u.claims.count) (sym is) c.requires.room) in
-    let one = gave_one v h c.args.slot tells.once o.1 (omega (arith, sl, fx)) ∙ ap (gave_slot c.args.slot) is in
-    subst (λ (u : ValueView). length u.claims.list + length u.claims.held ≤ u.claims.count) (one ∙ sym e) r
+pub returns-then-word-eq1-clause-whole : goal.returns-then-word-eq1-clause-whole
+returns-then-word-eq1-clause-whole c = c.put_back.ensures.whole
 
 pub returns-else-word-eq1-clause-gave : goal.returns-else-word-eq1-clause-gave
 returns-else-word-eq1-clause-gave c =

@@ -1,13 +1,15 @@
-use Rattle.std.proofs.Common.{◌≡◌, ◌≤◌, ℕ, suc, ◌+◌, ◌-◌, ◌*◌, ◌%◌, length, sym, ap, subst, ◌∙◌, arith, mod-lt, cond}
+use Rattle.std.proofs.Common.{◌≡◌, ◌<◌, ℕ, suc, ◌+◌, ◌-◌, ◌*◌, ◌%◌, length, sym, ap, subst, ◌∙◌, arith, mod-lt, cond}
 use Rattle.std.proofs.lemmas.Bool.{eq-eqb}
 use Rattle.psac_ops.specs.declared.plain.Handle.{Handle}
-use Rattle.psac_slots.specs.Handles.{Member, word_of, later}
-use Rattle.psac_slots.specs.Claiming.{place}
+use Rattle.psac_slots.specs.Handles.{Member, word_of, later, slot_times}
+use Rattle.psac_slots.specs.Claiming.{place, Accounted}
 use Rattle.psac_slots.proofs.Pairs.{map_member}
+use Rattle.psac_slots.proofs.Removed.{member_times}
+use Rattle.psac_values.proofs.Giving.{gave_whole}
 use Rattle.psac_values.specs.declared.view.ValueView.{ValueView}
 use Rattle.psac_values.specs.Valued.{state_at, free_word}
 use Rattle.psac_values.specs.Steps.{mark, marked, gave}
-use Rattle.psac_values.specs.Knowing.{IsOut}
+use Rattle.psac_values.specs.Knowing.{IsOut, claimed_as}
 use Rattle.psac_values.specs.Carried.{Carries}
 use Rattle.psac_values.proofs.Acts.{marks, gives}
 use Rattle.psac_values.proofs.Carrying.{state_of, has_room, gave_marked, carries_gave}
@@ -35,7 +37,7 @@ store-requires c =
     let st = state_of _ _ _ _ _ v p h o.1 in
     let ts = ap (λ (k : Handle). k.slot) st.2 in
     let low = (p.out st.0 st.1).1 in
-    let fit = subst (λ (v : ValueView). length v.claims.list + length v.claims.held ≤ v.claims.count) (sym is) c.requires.room in
+    let fit = subst (λ (v : ValueView). Accounted v.claims) (sym is) c.requires.whole in
     let room = has_room _ _ _ _ _ v h p o.1 fit in
     let spot : c.pass.inside.count + (c.args.m.slot - c.pass.inside.fixed) + 1 ≡ state_at v.claims.count h.slot = omega (arith, k, sl, fx) in
     let t = ap (λ p. p.table) c.pass.view_is ∙ (c.requires.table ∙ sym c.self.view_is) in
@@ -60,7 +62,7 @@ store-requires-2 c =
     let st = state_of _ _ _ _ _ v p h o.1 in
     let ts = ap (λ (k : Handle). k.slot) st.2 in
     let low = (p.out st.0 st.1).1 in
-    let fit = subst (λ (v : ValueView). length v.claims.list + length v.claims.held ≤ v.claims.count) (sym is) c.requires.room in
+    let fit = subst (λ (v : ValueView). Accounted v.claims) (sym is) c.requires.whole in
     let room = has_room _ _ _ _ _ v h p o.1 fit in
     let spot : c.pass.inside.count + (c.args.m.slot - c.pass.inside.fixed) + 1 ≡ state_at v.claims.count h.slot = omega (arith, k, sl, fx) in
     let t = ap (λ p. p.table) c.pass.view_is ∙ (c.requires.table ∙ sym c.self.view_is) in
@@ -97,7 +99,7 @@ returns-clause-gave c =
     let st = state_of _ _ _ _ _ v p h o.1 in
     let ts = ap (λ (k : Handle). k.slot) st.2 in
     let low = (p.out st.0 st.1).1 in
-    let fit = subst (λ (v : ValueView). length v.claims.list + length v.claims.held ≤ v.claims.count) (sym is) c.requires.room in
+    let fit = subst (λ (v : ValueView). Accounted v.claims) (sym is) c.requires.whole in
     let room = has_room _ _ _ _ _ v h p o.1 fit in
     let spot : c.pass.inside.count + (c.args.m.slot - c.pass.inside.fixed) + 1 ≡ state_at v.claims.count h.slot = omega (arith, k, sl, fx) in
     let x = 2 * (c.from-generation.result + 1) in
@@ -111,6 +113,15 @@ returns-clause-gave c =
     let fo = ap (λ (u : ValueView). u.fixed) e in
     let slot : h.slot ≡ c.args.m.slot - old.fixed = omega (arith, sl, fo) in
     ap (λ m. m.0) done ∙ (ap (gave h) g ∙ (gave_marked h x v ∙ (λ j. gave (record { slot = slot j; generation = ge j }) (e j))))
+
+pub returns-clause-whole : goal.returns-clause-whole
+returns-clause-whole c =
+    let v = c.args.pass.now.knows in
+    let o = c.requires.out in
+    let t = member_times o.0 v.claims.held o.1 in
+    let s = ap (λ (k : Handle). k.slot) o.2 in
+    let e : o.0.slot ≡ c.args.m.slot - v.fixed = omega (arith, s) in
+    subst (λ (u : ValueView). Accounted u.claims) (sym (returns-clause-gave c)) (gave_whole v (claimed_as c.args.m v) (subst (λ k. 0 < slot_times k v.claims.held) e (omega (arith, t))) c.requires.whole)
 
 pub invariant_of-pass : goal.invariant_of-pass
 invariant_of-pass c =
@@ -128,7 +139,7 @@ invariant_of-pass c =
     let st = state_of _ _ _ _ _ v p h o.1 in
     let ts = ap (λ (k : Handle). k.slot) st.2 in
     let low = (p.out st.0 st.1).1 in
-    let fit = subst (λ (v : ValueView). length v.claims.list + length v.claims.held ≤ v.claims.count) (sym is) c.requires.room in
+    let fit = subst (λ (v : ValueView). Accounted v.claims) (sym is) c.requires.whole in
     let room = has_room _ _ _ _ _ v h p o.1 fit in
     let spot : c.pass.inside.count + (c.args.m.slot - c.pass.inside.fixed) + 1 ≡ state_at v.claims.count h.slot = omega (arith, k, sl, fx) in
     let x = 2 * (c.from-generation.result + 1) in

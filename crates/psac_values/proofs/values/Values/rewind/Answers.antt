@@ -1,5 +1,5 @@
-use Rattle.std.proofs.Common.{ℕ, ◌≡◌, Some, sym, ap, subst, ◌∙◌, arith, refl, ◌≤◌, ◌+◌, ◌-◌, List, length, take, drop}
-use Rattle.psac_slots.specs.Claiming.{IsSole, counted, turned}
+use Rattle.std.proofs.Common.{ℕ, ◌≡◌, Some, sym, ap, subst, ◌∙◌, arith, refl, ◌+◌, ◌-◌, List, length, take}
+use Rattle.psac_slots.specs.Claiming.{IsSole, Accounted, counted, turned}
 use Rattle.psac_values.specs.Steps.{rewound}
 use Rattle.psac_values.specs.declared.view.ValueView.{ValueView}
 use Rattle.psac_values.proofs.Acts.{loads, rewinds}
@@ -46,13 +46,11 @@ turned_back-pass-inside-requires c =
     let y = c.from-2.ensures in
     omega (arith, g, t, a, b, d, x, y)
 
-pub returns-clause-room : goal.returns-clause-room
-returns-clause-room c =
+pub returns-clause-whole : goal.returns-clause-whole
+returns-clause-whole c =
     let l = c.load-counter.ensures.2 in
     let e = ap (λ m. m.0) c.store.ensures.2 ∙ ap (λ m. rewound m.0) l.same in
-    let sole = subst (λ (v : ValueView). IsSole v.claims) (sym (ap (λ p. p.knows) c.pass.view_is)) c.requires.sole in
-    let v = c.pass.inside.seat.me.0 in
-    subst (λ (w : ValueView). length w.claims.list + length w.claims.held ≤ w.claims.count) (sym e) (subst (λ (k : ℕ). length (drop k v.claims.list) + length v.claims.held ≤ v.claims.count) (sym (ap counted sole.1)) (l.tells.room sole.0 sole.1))
+    subst (λ (v : ValueView). Accounted v.claims) (sym e) (l.tells.whole (subst (λ (v : ValueView). IsSole v.claims) (sym (ap (λ p. p.knows) c.pass.view_is)) c.requires.sole))
 
 pub invariant_of-pass : goal.invariant_of-pass
 invariant_of-pass c =
