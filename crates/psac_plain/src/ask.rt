@@ -42,7 +42,7 @@ pub enum Action<'a> {
     Sides(&'a [Stmt], &'a [Stmt]),
 }
 
-fn target_of(v: Plain) -> Result<Handle, Halt>
+pub fn target_of(v: Plain) -> Result<Handle, Halt>
     ensures { Gives (λ h. h) result (target (plain_value v)) }
 {
     match v {
@@ -51,7 +51,7 @@ fn target_of(v: Plain) -> Result<Handle, Halt>
     }
 }
 
-fn destination_of(env: &[Binding], d: u16) -> Result<Handle, Halt>
+pub fn destination_of(env: &[Binding], d: u16) -> Result<Handle, Halt>
     ensures { Gives (λ h. h) result (destination (env_of env.now) d) }
 {
     match lookup(env, d) {
@@ -92,7 +92,7 @@ fn reads_of(
     Ok(all)
 }
 
-fn destinations_of(alloc: Global, env: &[Binding], dests: &[u16]) -> Result<Vec<Plain>, Halt>
+pub fn destinations_of(alloc: Global, env: &[Binding], dests: &[u16]) -> Result<Vec<Plain>, Halt>
     ensures { Gives (λ v. values_of v.items) result (in_order (map (reference (env_of env.now)) dests.now)) }
 {
     let mut all = Vec::new(alloc);
@@ -115,7 +115,7 @@ fn func_of(funcs: &[Func], name: u16) -> Option<&Func>
 }
 
 /// What a call runs: the function's body, under its parameters alone.
-fn called<'a>(
+pub fn called<'a>(
     alloc: Global,
     funcs: &'a [Func],
     func: u16,
@@ -135,7 +135,7 @@ fn called<'a>(
     }
 }
 
-fn bool_of(v: Plain) -> Result<bool, Halt>
+pub fn bool_of(v: Plain) -> Result<bool, Halt>
     ensures { Gives (λ b. b) result (as_bool (plain_value v)) }
 {
     match v {

@@ -1,17 +1,17 @@
 //! The plain evaluator: the whole program one after another, with no record kept.
 #![tactic(auto)]
 
-mod ask;
+pub mod ask;
 mod begin;
-mod binding;
-mod halt;
-mod opening;
+pub mod binding;
+pub mod halt;
+pub mod opening;
 mod outputs;
 mod places;
 mod plain;
 mod run;
 mod size;
-mod value;
+pub mod value;
 
 pub use plain::{PlainEnd, plain_run};
 
