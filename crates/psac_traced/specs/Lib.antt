@@ -1,0 +1,14 @@
+pub mod Rec
+pub mod Traced
+pub mod Holds
+pub mod Renamed
+pub mod Places
+pub mod Mending
+pub mod Repaired
+pub mod Redone
+pub mod Serial
+pub mod Scoped
+pub mod Parts
+pub mod Mended
+pub mod Bodies
+pub mod Blocks
