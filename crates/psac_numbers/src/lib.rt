@@ -1,0 +1,2 @@
+//! Of a parsed program, a number is that of one read block.
+#![tactic(auto)]
