@@ -1,0 +1,5 @@
+mod Chains
+pub mod Layers
+pub mod Listed
+pub mod Parted
+mod Sizes

@@ -1,0 +1,4 @@
+pub mod Dropped
+pub mod Kept
+pub mod Opened
+pub mod Shown
