@@ -1,0 +1,4 @@
+pub mod Parts
+pub mod Gave
+pub mod Owed
+pub mod Going
