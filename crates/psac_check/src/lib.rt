@@ -11,8 +11,6 @@ mod read;
 mod rounds;
 mod sides;
 mod simple;
-#[cfg(test)]
-mod tests;
 
 pub use accepted::Checked;
 pub use fault::CheckFault;

@@ -6,6 +6,3 @@ mod setting;
 mod words;
 
 pub use request::{Mode, Request, Settings, read_request};
-
-#[cfg(test)]
-mod tests;

@@ -14,6 +14,3 @@ pub use grid::Grid;
 pub use interner::Interner;
 pub use lines::split_line;
 pub use load::{load_csv, load_lines};
-
-#[cfg(test)]
-mod tests;

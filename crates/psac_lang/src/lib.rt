@@ -9,13 +9,9 @@ mod lists;
 mod marks;
 mod operand;
 mod program;
-#[cfg(test)]
-mod programs;
 mod reading;
 mod start;
 mod statement;
-#[cfg(test)]
-mod tests;
 
 pub use fault::ParseFault;
 pub use program::parse;

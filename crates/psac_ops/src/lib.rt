@@ -12,6 +12,3 @@ pub use op::{Op, OpFault, apply};
 pub use plain::{Handle, Plain, TextId};
 pub use rows::{OPS, OpRow};
 pub use words::{from_words, to_words};
-
-#[cfg(test)]
-mod tests;

@@ -14,6 +14,3 @@ mod size;
 pub mod value;
 
 pub use plain::{PlainEnd, plain_run};
-
-#[cfg(test)]
-mod tests;

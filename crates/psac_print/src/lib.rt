@@ -4,8 +4,6 @@
 mod expression;
 mod program;
 mod statement;
-#[cfg(test)]
-mod tests;
 mod words;
 
 pub use program::print;

@@ -15,6 +15,3 @@ pub use number::read_number;
 pub use refused::{check_line, input_line, limit_line, syntax_line, usage_line};
 pub use reply::{Reply, reply_text};
 pub use text::push_count;
-
-#[cfg(test)]
-mod tests;

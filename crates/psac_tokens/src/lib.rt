@@ -5,8 +5,6 @@ mod distinct;
 mod front;
 mod numbering;
 mod place;
-#[cfg(test)]
-mod tests;
 mod text;
 mod token;
 mod tokens;

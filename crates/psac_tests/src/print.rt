@@ -1,5 +1,5 @@
-use super::*;
 use psac_lang::parse;
+use psac_print::*;
 use std::alloc::Global;
 use std::test::Fail;
 

@@ -1,5 +1,5 @@
-use crate::{Mode, read_request};
 use psac_base::NoMemory;
+use psac_command::{Mode, read_request};
 use std::alloc::Global;
 use std::test::Fail;
 

@@ -1,5 +1,5 @@
-use super::*;
 use crate::programs as worked;
+use psac_lang::*;
 use std::alloc::{AllocError, Global};
 use std::test::Fail;
 

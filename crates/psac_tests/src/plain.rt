@@ -1,7 +1,7 @@
-use crate::{PlainEnd, plain_run};
 use psac_inputs::Grid;
 use psac_model::{End, FaultKind, Shown, Size, main_of};
 use psac_ops::{Op, Plain};
+use psac_plain::{PlainEnd, plain_run};
 use psac_syntax::{Expr, Func, Program, ReadItem, Stmt, Word};
 use sqlite_items::{Boxed, Items};
 use std::alloc::{AllocError, Global};

@@ -1,4 +1,4 @@
-use super::*;
+use psac_tokens::*;
 use std::alloc::{AllocError, Global};
 use std::test::Fail;
 

@@ -1,12 +1,17 @@
 ghost use Rattle.psac_inputs.specs.Batch.{GoesInto};
 
-use crate::{
+use psac_base::{NoMemory, push_int};
+use psac_inputs::{
     Batch, BatchFault, Grid, InputFault, Interner, TextFault, load_csv, load_lines, split_line,
 };
-use psac_base::{NoMemory, push_int};
 use psac_ops::Plain;
 use std::alloc::Global;
 use std::test::Fail;
+
+// Whether a cell has the value.
+fn holds(grid: &Grid, row: u32, col: u32, value: Plain) -> bool {
+    row < grid.room() && col < grid.cols() && grid.get(row, col) == value
+}
 
 // Whether a cell is the text.
 fn is_text(grid: &Grid, texts: &Interner, row: u32, col: u32, text: &[u8]) -> bool {
@@ -173,7 +178,7 @@ fn rows_that_go(rt: HostRuntime) -> Result<(), Fail> {
     let mut batch = Batch::new(alloc, &grid)?;
     assert!(rt; put_rows(&mut grid, &mut batch, 1, 3).is_ok());
     assert!(rt; grid.rows() == 3);
-    assert!(rt; grid.holds(1, 0, Plain::Nil));
+    assert!(rt; holds(&grid, 1, 0, Plain::Nil));
     Ok(())
 }
 

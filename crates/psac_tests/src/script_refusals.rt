@@ -1,5 +1,5 @@
-use crate::{input_line, limit_line, push_count, syntax_line, usage_line};
 use psac_inputs::InputFault;
+use psac_script::{input_line, limit_line, push_count, syntax_line, usage_line};
 use std::test::Fail;
 
 #[test]

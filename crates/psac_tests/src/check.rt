@@ -1,9 +1,9 @@
 // Programs as texts, and the first fault of each.
-use super::{CheckFault, check};
 use CheckFault::{
     Arity, BranchesDiffer, NoMain, NotWritten, ReadBeforeWrite, Rebound, UnknownFunction,
     UnknownName, WrittenInBothSides, WrittenTwice, WrongSort,
 };
+use psac_check::{CheckFault, check};
 use psac_lang::parse;
 use std::alloc::Global;
 

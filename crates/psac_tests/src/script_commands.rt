@@ -1,4 +1,4 @@
-use crate::{Command, FormRefused, read_command};
+use psac_script::{Command, FormRefused, read_command};
 
 #[test]
 fn lines_that_are_commands(rt: HostRuntime) {
