@@ -12,5 +12,6 @@ pub mod Opens
 pub mod Entering
 pub mod Carrying
 pub mod Walking
+pub mod Walks
 pub mod Callers
 pub mod Kept

@@ -2,4 +2,5 @@ pub mod Chained
 pub mod Steps
 pub mod Passes
 pub mod Swept
+pub mod Walked
 pub mod Promised

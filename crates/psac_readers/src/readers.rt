@@ -261,6 +261,7 @@ impl Readers {
         requires walk { Member m.slot (mods_of pass.old.knows.walk) }
         ensures table { pass.new.table ≡ pass.old.table }
         ensures first { First pass.old.knows m.slot result pass.new.knows }
+        ensures once { (l : ℕ) → sum_by (named l) pass.new.knows.links ≤ 1 }
         ensures found { IfSome result (λ l. OnWalk pass.new.knows m.slot l.index) }
     {
         let (links, mods) = (pass.links, pass.mods);

@@ -96,6 +96,16 @@ returns-clause-first c =
       s.found ∙ ((λ j. next_live (ap (λ m. m.0.links) q.1 j) (from_word c.load-word.result (chain j))) ∙ (λ j. next_live (iv j).links ((word_whole c.load-word.result ls q.2).1 j))),
     )
 
+pub returns-clause-once : goal.returns-clause-once
+returns-clause-once c =
+    let p = c.pass.invariant.1 in
+    let li = p.links_is in
+    let is = ap (λ p. p.knows) c.pass.view_is in
+    let has = subst (λ k. Member c.args.m.slot (mods_of k.walk)) (sym is) c.requires.walk in
+    let q = c.load-word.ensures.2 c.args.m.slot (omega (arith, li)) has in
+    let new = ap (λ m. m.0.links) (c.live_from.ensures.seat.1 ∙ q.1) in
+    subst (λ ks. (l : ℕ) → sum_by (named l) ks ≤ 1) (sym new) q.4
+
 pub returns-clause-found : goal.returns-clause-found
 returns-clause-found c =
     let f = returns-clause-first c in
