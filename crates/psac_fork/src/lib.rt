@@ -3,9 +3,11 @@
 
 pub mod crew;
 pub mod pass;
+pub mod sides;
 pub mod tables;
 
 pub use crew::{Crew, Gate, NoGate, Side, both};
+pub use sides::{Part, fork_sides};
 pub use tables::{Pass, PassSplit, Tables};
 
 #[cfg(test)]
