@@ -1,3 +1,4 @@
 pub mod Rising
 pub mod Statements
 pub mod Program
+pub mod Scopes
