@@ -1,0 +1,57 @@
+# What the launcher sources, with $front (the folder of this file), $home (where README.md or a file `version` stands)
+# and $program set. It needs no Python itself, so that pipes cost nothing.
+
+# front_page WORD..: shows the page that the words ask for and ends, or returns where they ask for none.
+front_page() {
+    case ${1-} in
+        -h | --help) topic=help ;;
+        --version) front_version; exit ;;
+        help) topic=$(printf '%s' "${2-help}" | tr 'A-Z' 'a-z') ;;
+        *) return 0 ;;
+    esac
+    case $topic in
+        help | once | session | language | script | hints) cat "$front/pages/$topic.txt"; exit ;;
+        bench) echo "psac: the mode bench isn't there yet" >&2; exit 2 ;;
+    esac
+    echo "psac: there is no page '$2'; there are: once session LANGUAGE SCRIPT HINTS" >&2
+    exit 2
+}
+
+# front_version: the commit and the kit line, as the installation wrote them down or as the repository has them.
+front_version() {
+    if [ -f "$home/version" ]; then
+        cat "$home/version"
+        return
+    fi
+    commit=$(git -C "$home" rev-parse --short HEAD 2>/dev/null) || commit=unknown
+    kit=$(sed -n 's/^Proved with: `\(.*\)`.*/\1/p' "$home/README.md" 2>/dev/null)
+    printf 'psac, commit %s\nproved with: %s\n' "$commit" "${kit:-unknown}"
+}
+
+# front_has_hints: whether hints are wanted.
+front_has_hints() {
+    case ${PSAC_HINTS-} in
+        1) return 0 ;;
+        0) return 1 ;;
+    esac
+    [ -t 2 ]
+}
+
+# front_is_typed WORD..: whether this may be a session that someone types.
+front_is_typed() {
+    case " $* " in
+        *' session '*) [ -t 0 ] && [ -t 1 ] ;;
+        *) return 1 ;;
+    esac
+}
+
+# front_run WORD..: becomes the program, with the front before it where that is wanted and Python is there.
+front_run() {
+    how=plain
+    if front_has_hints; then how=hints; fi
+    python=${PSAC_PYTHON:-python3}
+    if { [ "$how" = hints ] || front_is_typed "$@"; } && command -v "$python" >/dev/null; then
+        exec "$python" -I -S "$front" "$how" "$program" "$@"
+    fi
+    exec "$program" "$@"
+}
