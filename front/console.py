@@ -168,8 +168,8 @@ class Console:
         if self.cells is not None:
             grid = f", {counted(self.cells.rows, 'row')} and {counted(self.cells.cols, 'column')}"
         files = f"{short(self.request.program)} over {short(self.request.input)}"
-        said = f"{files}{grid}. 'help' lists the commands, Ctrl-D ends."
-        self.show(f"\033[2m{said}\033[0m\n".encode() if self.has_colour else f"{said}\n".encode())
+        for line in (f"{files}{grid}", "'help' lists the commands, Ctrl-D ends the session"):
+            self.show(f"\033[2m{line}\033[0m\n".encode() if self.has_colour else f"{line}\n".encode())
 
     def set_up_keys(self):
         """Has Tab complete commands."""

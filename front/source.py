@@ -45,7 +45,7 @@ def similar_names(name):
         there = os.listdir(folder or ".")
     except OSError:
         return [f"there is no folder {folder} here" if folder else "this folder can't be read"]
-    close = difflib.get_close_matches(base, there, 3, 0.6)
+    close = difflib.get_close_matches(base, there, 3, 0.75)
     if not close:
         stem = os.path.splitext(base)[0]
         close = sorted(it for it in there if stem and os.path.splitext(it)[0] == stem)[:3]

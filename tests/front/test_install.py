@@ -4,7 +4,7 @@ import shutil
 
 import support
 
-TREE = "front tools completion man editors docs".split()
+TREE = "front tools completion man editors docs .ci".split()
 PLACES = """
 bin/psac
 bin/psac-table

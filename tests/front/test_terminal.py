@@ -68,7 +68,7 @@ class Prompt(support.Case):
 
 class Session(Prompt):
     def test_session(self):
-        self.assertIn(b"double.psac over cells.txt, 1 row and 1 column.", self.at_prompt())
+        self.assertIn(b"double.psac over cells.txt, 1 row and 1 column\x1b[0m\r\n", self.at_prompt())
         self.assertEqual(self.reply("commit"), WORK)
         self.assertEqual(self.reply("show"), b"out = 42\r\n")
         self.assertEqual(self.reply("set 0 0 5"), b"")
