@@ -20,7 +20,7 @@ class Console:
         self.words, self.request, self.has_hints = words, request, has_hints
         self.has_colour = has_colour(1)
         self.autoshow = Autoshow(self.has_colour)
-        self.cells, self.is_failed, self.is_asked_twice = None, False, False
+        self.cells, self.is_failed, self.was_interrupted = None, False, False
         self.own_commands = {"help": self.help, "?": self.help, "autoshow": self.switch_autoshow}
         self.dialogue = Dialogue(program, words)
         signal.signal(signal.SIGINT, self.interrupt)
@@ -79,7 +79,7 @@ class Console:
 
     def ask(self, line, content):
         """Has the program answer a line, and says what there is to say besides."""
-        self.is_asked_twice = False
+        self.was_interrupted = False
         noted = self.dialogue.exchange(content, self.show)
         if self.dialogue.is_over:
             return
@@ -143,10 +143,10 @@ class Console:
 
     def interrupt(self, _number, _frame):
         """Ctrl-C while the program is at work: the first one is told, the second one ends it."""
-        if self.is_asked_twice:
+        if self.was_interrupted:
             self.dialogue.interrupt()
             return
-        self.is_asked_twice = True
+        self.was_interrupted = True
         if self.dialogue.progress is not None:
             self.dialogue.progress.clear()
         self.hint(lambda: ["the program is at work; Ctrl-C once more ends the session"])
