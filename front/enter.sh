@@ -1,5 +1,14 @@
-# What the launcher sources, with $front (the folder of this file), $home (where README.md or a file `version` stands)
-# and $program set. It needs no Python itself, so that pipes cost nothing.
+# What the launcher sources, with $front (the folder of this file) set. It calls front_enter with its words, and front_run once
+# $program is there. No Python is needed here, so that pipes cost nothing.
+home=${front%/front} # where README.md or a file `version` stands
+
+# front_enter WORD..: shows the page that the words ask for, or runs the program that PSAC_PROGRAM names; else it returns.
+front_enter() {
+    front_page "$@"
+    [ -n "${PSAC_PROGRAM-}" ] || return 0
+    program=$PSAC_PROGRAM
+    front_run "$@"
+}
 
 # front_page WORD..: shows the page that the words ask for and ends, or returns where they ask for none.
 front_page() {
