@@ -1,0 +1,7 @@
+pub mod Rights
+pub mod Told
+pub mod Divided
+pub mod Asking
+pub mod Running
+pub mod Grown
+pub mod Fit

@@ -1,0 +1,467 @@
+//! The tracing run.
+ghost use Rattle.std.specs.Prelude.{◌≡◌, ◌+◌, ◌-◌, ◌<◌, Result, Option, Some, None, Ok, Err};
+ghost use Rattle.std.specs.Thread.{IsSync};
+ghost use Rattle.psac_plain.specs.Slots.{env_of};
+ghost use Rattle.psac_plain.specs.Running.{action_view, reads_view};
+ghost use Rattle.psac_traced.specs.Traced.{traced};
+ghost use Rattle.psac_model.specs.Fresh.{levels};
+ghost use Rattle.psac_model.specs.Run.{Body, Block, Sides, with_reads};
+ghost use Rattle.psac_record.specs.Kept.{Kept, E};
+ghost use Rattle.psac_trace.specs.Asking.{setting_on};
+ghost use Rattle.psac_trace.specs.Told.{ended_of};
+ghost use Rattle.psac_trace.specs.Running.{Begins, Leaves, BeginsAct, LeavesAct, LeavesBoth, BeginsAfter, LeavesAfter};
+
+use crate::ask::asked;
+use crate::divide::fork_for;
+use crate::ground::Ground;
+use crate::halt::Halt;
+use crate::nodes::{opened, stepped};
+use crate::put::{
+    after_made, after_step, after_wrote, bound_in, entered, in_block, paired, ran_out, stopped,
+};
+use psac_fork::{Crew, Gate, Pass, Tables, both};
+use psac_model::{CapKind, FaultKind};
+use psac_ops::{Handle, Plain, TextId, to_words};
+use psac_plain::ask::{Action, Seen, line};
+use psac_plain::binding::Binding;
+use psac_record::Record;
+use psac_syntax::{Func, ReadItem, Stmt};
+use std::alloc::Global;
+use std::thread::Threads;
+
+/// Runs statements from a level on, on a pass, and records what they do: what it makes stands below the parent.
+#[cycle(run)]
+pub fn run_block<Rt: Threads + Sync, G: Gate + Sync>(
+    rt: &Rt,
+    alloc: Global,
+    crew: &Crew,
+    gate: &G,
+    tables: &Tables,
+    ground: &Ground,
+    texts: &[TextId],
+    funcs: &[Func],
+    level: u32,
+    body: &[Stmt],
+    env: &[Binding],
+    parent: Option<Handle>,
+    mut pass: Pass,
+) -> (Result<Record, Halt>, Pass)
+    requires { Begins (setting_on ground.now texts.now) funcs.now tables.now body.now (env_of env.now) parent pass }
+    ensures { (k : Kept) × Leaves (setting_on ground.now texts.now) (traced (setting_on ground.now texts.now) funcs.now (levels - level)) tables.now body.now (env_of env.now) parent pass result.1 (ended_of k result.0) }
+{
+    let [s, rest @ ..] = body else {
+        return (Ok(Record::empty()), pass);
+    };
+    if level >= 300 {
+        return (Err(Halt::Fault(FaultKind::TooDeep, line(s))), pass);
+    }
+    match asked(
+        alloc,
+        ground,
+        texts,
+        funcs,
+        env,
+        &tables.values,
+        &mut pass.values,
+        s,
+    ) {
+        Ok(action) => act_on(
+            rt,
+            alloc,
+            crew,
+            gate,
+            tables,
+            ground,
+            texts,
+            funcs,
+            level + 1,
+            action,
+            rest,
+            env,
+            parent,
+            pass,
+        ),
+        Err(halt) => (Err(stopped(halt, line(s))), pass),
+    }
+}
+
+/// Does what a statement asked for, and runs the rest of its body; the level is that of a body behind it or in it.
+#[cycle(run)]
+fn act_on<Rt: Threads + Sync, G: Gate + Sync>(
+    rt: &Rt,
+    alloc: Global,
+    crew: &Crew,
+    gate: &G,
+    tables: &Tables,
+    ground: &Ground,
+    texts: &[TextId],
+    funcs: &[Func],
+    level: u32,
+    action: Action,
+    rest: &[Stmt],
+    env: &[Binding],
+    parent: Option<Handle>,
+    mut pass: Pass,
+) -> (Result<Record, Halt>, Pass)
+    requires { BeginsAct (setting_on ground.now texts.now) funcs.now tables.now (action_view (env_of env.now) action) rest.now (env_of env.now) parent pass }
+    ensures { (k : Kept) × LeavesAct (setting_on ground.now texts.now) (levels - level) (traced (setting_on ground.now texts.now) funcs.now (levels - level)) tables.now (action_view (env_of env.now) action.entry) rest.now (env_of env.now) parent pass result.1 (ended_of k result.0) }
+{
+    match action {
+        Action::Bind(name, value) => match bound_in(alloc, env, name, value) {
+            Ok(more) => run_block(
+                rt, alloc, crew, gate, tables, ground, texts, funcs, level, rest, &more, parent,
+                pass,
+            ),
+            Err(_) => (Err(Halt::NoMemory), pass),
+        },
+        Action::Make(name) => match tables.values.claim(&mut pass.values) {
+            Ok(m) => match bound_in(alloc, env, name, Plain::Ref(m)) {
+                Ok(more) => {
+                    let (r, pass) = run_block(
+                        rt, alloc, crew, gate, tables, ground, texts, funcs, level, rest, &more,
+                        parent, pass,
+                    );
+                    (after_made(alloc, m, r), pass)
+                }
+                Err(_) => (Err(Halt::NoMemory), pass),
+            },
+            Err(full) => (Err(Halt::Full(CapKind::Mods, full)), pass),
+        },
+        Action::Put(m, v) => {
+            tables.values.write(&mut pass.values, m, to_words(v));
+            let (r, pass) = run_block(
+                rt, alloc, crew, gate, tables, ground, texts, funcs, level, rest, env, parent, pass,
+            );
+            (after_wrote(alloc, m, v, r), pass)
+        }
+        Action::Branch(body) => run_inner(
+            rt, alloc, crew, gate, tables, ground, texts, funcs, level, body, env, rest, env,
+            parent, pass,
+        ),
+        Action::Called(body, inner) => run_inner(
+            rt, alloc, crew, gate, tables, ground, texts, funcs, level, body, &inner, rest, env,
+            parent, pass,
+        ),
+        Action::Block(number, seen, items, body) => run_read(
+            rt, alloc, crew, gate, tables, ground, texts, funcs, level, number, &seen, items, body,
+            rest, env, parent, pass,
+        ),
+        Action::Sides(left, right) => run_par(
+            rt, alloc, crew, gate, tables, ground, texts, funcs, level, left, right, rest, env,
+            parent, pass,
+        ),
+    }
+}
+
+/// Runs an inner body, and the rest.
+#[cycle(run)]
+fn run_inner<Rt: Threads + Sync, G: Gate + Sync>(
+    rt: &Rt,
+    alloc: Global,
+    crew: &Crew,
+    gate: &G,
+    tables: &Tables,
+    ground: &Ground,
+    texts: &[TextId],
+    funcs: &[Func],
+    level: u32,
+    body: &[Stmt],
+    inner: &[Binding],
+    rest: &[Stmt],
+    env: &[Binding],
+    parent: Option<Handle>,
+    pass: Pass,
+) -> (Result<Record, Halt>, Pass)
+    requires { BeginsAct (setting_on ground.now texts.now) funcs.now tables.now (Body body.now (env_of inner.now)) rest.now (env_of env.now) parent pass }
+    ensures { (k : Kept) × LeavesAct (setting_on ground.now texts.now) (levels - level) (traced (setting_on ground.now texts.now) funcs.now (levels - level)) tables.now (Body body.now (env_of inner.now)) rest.now (env_of env.now) parent pass result.1 (ended_of k result.0) }
+{
+    let (claimed, pass) = stepped(tables, parent, pass);
+    match claimed {
+        Ok(node) => {
+            let (t, pass) = run_block(
+                rt,
+                alloc,
+                crew,
+                gate,
+                tables,
+                ground,
+                texts,
+                funcs,
+                level,
+                body,
+                inner,
+                Some(node),
+                pass,
+            );
+            go_on(
+                rt, alloc, crew, gate, tables, ground, texts, funcs, level, node, t, rest, env,
+                pass,
+            )
+        }
+        Err(halt) => (Err(halt), pass),
+    }
+}
+
+/// Runs a read block, and the rest.
+#[cycle(run)]
+fn run_read<Rt: Threads + Sync, G: Gate + Sync>(
+    rt: &Rt,
+    alloc: Global,
+    crew: &Crew,
+    gate: &G,
+    tables: &Tables,
+    ground: &Ground,
+    texts: &[TextId],
+    funcs: &[Func],
+    level: u32,
+    number: u32,
+    seen: &[Seen],
+    items: &[ReadItem],
+    body: &[Stmt],
+    rest: &[Stmt],
+    env: &[Binding],
+    parent: Option<Handle>,
+    pass: Pass,
+) -> (Result<Record, Halt>, Pass)
+    requires { BeginsAct (setting_on ground.now texts.now) funcs.now tables.now (Block number (reads_view seen.now) body.now (with_reads (env_of env.now) items.now (reads_view seen.now))) rest.now (env_of env.now) parent pass }
+    ensures { (k : Kept) × LeavesAct (setting_on ground.now texts.now) (levels - level) (traced (setting_on ground.now texts.now) funcs.now (levels - level)) tables.now (Block number (reads_view seen.now) body.now (with_reads (env_of env.now) items.now (reads_view seen.now))) rest.now (env_of env.now) parent pass result.1 (ended_of k result.0) }
+{
+    let (begun, pass) = opened(alloc, tables, parent, level, number, env, seen, pass);
+    match begun {
+        Ok((node, reading)) => match entered(alloc, env, items, seen) {
+            Ok(inner) => {
+                let (t, pass) = run_block(
+                    rt,
+                    alloc,
+                    crew,
+                    gate,
+                    tables,
+                    ground,
+                    texts,
+                    funcs,
+                    level,
+                    body,
+                    &inner,
+                    Some(reading.node),
+                    pass,
+                );
+                let t = in_block(alloc, reading, t);
+                go_on(
+                    rt, alloc, crew, gate, tables, ground, texts, funcs, level, node, t, rest, env,
+                    pass,
+                )
+            }
+            Err(_) => (Err(Halt::NoMemory), pass),
+        },
+        Err(halt) => (Err(halt), pass),
+    }
+}
+
+/// Runs a par, and the rest.
+#[cycle(run)]
+fn run_par<Rt: Threads + Sync, G: Gate + Sync>(
+    rt: &Rt,
+    alloc: Global,
+    crew: &Crew,
+    gate: &G,
+    tables: &Tables,
+    ground: &Ground,
+    texts: &[TextId],
+    funcs: &[Func],
+    level: u32,
+    left: &[Stmt],
+    right: &[Stmt],
+    rest: &[Stmt],
+    env: &[Binding],
+    parent: Option<Handle>,
+    pass: Pass,
+) -> (Result<Record, Halt>, Pass)
+    requires { BeginsAct (setting_on ground.now texts.now) funcs.now tables.now (Sides left.now right.now) rest.now (env_of env.now) parent pass }
+    ensures { (k : Kept) × LeavesAct (setting_on ground.now texts.now) (levels - level) (traced (setting_on ground.now texts.now) funcs.now (levels - level)) tables.now (Sides left.now right.now) rest.now (env_of env.now) parent pass result.1 (ended_of k result.0) }
+{
+    let (claimed, pass) = stepped(tables, parent, pass);
+    match claimed {
+        Ok(node) => {
+            let (t, pass) = run_both(
+                rt,
+                alloc,
+                crew,
+                gate,
+                tables,
+                ground,
+                texts,
+                funcs,
+                level,
+                left,
+                right,
+                rest,
+                env,
+                Some(node),
+                pass,
+            );
+            go_on(
+                rt, alloc, crew, gate, tables, ground, texts, funcs, level, node, t, rest, env,
+                pass,
+            )
+        }
+        Err(halt) => (Err(halt), pass),
+    }
+}
+
+/// Runs both sides of a par, at once where the pass can be forked, and else one after the other. The rest is there for the contract
+/// alone.
+#[cycle(run)]
+fn run_both<Rt: Threads + Sync, G: Gate + Sync>(
+    rt: &Rt,
+    alloc: Global,
+    crew: &Crew,
+    gate: &G,
+    tables: &Tables,
+    ground: &Ground,
+    texts: &[TextId],
+    funcs: &[Func],
+    level: u32,
+    left: &[Stmt],
+    right: &[Stmt],
+    rest: &[Stmt],
+    env: &[Binding],
+    parent: Option<Handle>,
+    pass: Pass,
+) -> (Result<Record, Halt>, Pass)
+    requires { BeginsAct (setting_on ground.now texts.now) funcs.now tables.now (Sides left.now right.now) rest.now (env_of env.now) parent pass }
+    ensures { (k : Kept) × LeavesBoth (setting_on ground.now texts.now) (traced (setting_on ground.now texts.now) funcs.now (levels - level)) tables.now left.now right.now rest.now (env_of env.now) parent pass result.1 (ended_of k result.0) }
+{
+    let (claimed, pass) = stepped(tables, parent, pass);
+    let par = match claimed {
+        Ok(par) => par,
+        Err(halt) => return (Err(halt), pass),
+    };
+    if pass.depth >= 62 {
+        let (l, pass) = run_block(
+            rt,
+            alloc,
+            crew,
+            gate,
+            tables,
+            ground,
+            texts,
+            funcs,
+            level,
+            left,
+            env,
+            Some(par),
+            pass,
+        );
+        if ran_out(&l) {
+            return (l, pass);
+        }
+        let (r, pass) = run_block(
+            rt,
+            alloc,
+            crew,
+            gate,
+            tables,
+            ground,
+            texts,
+            funcs,
+            level,
+            right,
+            env,
+            Some(par),
+            pass,
+        );
+        return (paired(alloc, par, l, r), pass);
+    }
+    let (mine, theirs) = fork_for(tables, pass, left, right, env);
+    let ((l, mine), (r, theirs)) = both(
+        rt,
+        crew,
+        gate,
+        move || -> (Result<Record, Halt>, Pass)
+            requires { IsSync Rt.row × IsSync G.row × Begins (setting_on ground.now texts.now) funcs.now tables.now left.now (env_of env.now) (Some par) mine }
+            ensures { (k : Kept) × Leaves (setting_on ground.entry.now texts.entry.now) (traced (setting_on ground.entry.now texts.entry.now) funcs.entry.now (levels - level)) tables.entry.now left.entry.now (env_of env.entry.now) (Some par) mine result.1 (ended_of k result.0) }
+        {
+            run_block(
+                rt,
+                alloc,
+                crew,
+                gate,
+                tables,
+                ground,
+                texts,
+                funcs,
+                level,
+                left,
+                env,
+                Some(par),
+                mine,
+            )
+        },
+        move || -> (Result<Record, Halt>, Pass)
+            requires { IsSync Rt.row × IsSync G.row × Begins (setting_on ground.now texts.now) funcs.now tables.now right.now (env_of env.now) (Some par) theirs }
+            ensures { (k : Kept) × Leaves (setting_on ground.entry.now texts.entry.now) (traced (setting_on ground.entry.now texts.entry.now) funcs.entry.now (levels - level)) tables.entry.now right.entry.now (env_of env.entry.now) (Some par) theirs result.1 (ended_of k result.0) }
+        {
+            run_block(
+                rt,
+                alloc,
+                crew,
+                gate,
+                tables,
+                ground,
+                texts,
+                funcs,
+                level,
+                right,
+                env,
+                Some(par),
+                theirs,
+            )
+        },
+    );
+    let pass = Pass::join(mine, theirs, tables);
+    (paired(alloc, par, l, r), pass)
+}
+
+/// Runs the rest of a body where the compound statement before it, whose node this is, is done.
+#[cycle(run)]
+fn go_on<Rt: Threads + Sync, G: Gate + Sync>(
+    rt: &Rt,
+    alloc: Global,
+    crew: &Crew,
+    gate: &G,
+    tables: &Tables,
+    ground: &Ground,
+    texts: &[TextId],
+    funcs: &[Func],
+    level: u32,
+    node: Handle,
+    t: Result<Record, Halt>,
+    rest: &[Stmt],
+    env: &[Binding],
+    pass: Pass,
+) -> (Result<Record, Halt>, Pass)
+    requires { BeginsAfter (setting_on ground.now texts.now) funcs.now tables.now node (ended_of E t) rest.now (env_of env.now) pass }
+    ensures { (j : Kept) → (k : Kept) × LeavesAfter (setting_on ground.now texts.now) (traced (setting_on ground.now texts.now) funcs.now (levels - level)) tables.now node (ended_of j t) rest.now (env_of env.now) pass result.1 (ended_of k result.0) }
+{
+    match t {
+        Ok(t) => {
+            let (r, pass) = run_block(
+                rt,
+                alloc,
+                crew,
+                gate,
+                tables,
+                ground,
+                texts,
+                funcs,
+                level,
+                rest,
+                env,
+                Some(node),
+                pass,
+            );
+            (after_step(alloc, node, t, r), pass)
+        }
+        Err(h) => (Err(h), pass),
+    }
+}
