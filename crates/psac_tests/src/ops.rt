@@ -2,7 +2,7 @@
 ghost use Rattle.std.specs.Prelude.{◌≡◌};
 ghost use Rattle.psac_ops.specs.Table.{arity};
 
-use psac_ops::{Handle, OPS, Op, OpFault, Plain, TextId, apply, find, from_words, to_words};
+use psac_ops::{Handle, Op, OpFault, Plain, TextId, apply, find, from_words, row, to_words};
 
 const A: Handle = Handle {
     slot: 7,
@@ -34,8 +34,8 @@ fn operators_give_what_the_table_says(rt: HostRuntime) {
 
 #[test]
 fn names_lead_to_their_rows(rt: HostRuntime) {
-    assert!(rt; find(&OPS, "+") == Some(0) && find(&OPS, "snd") == Some(21));
-    assert!(rt; find(&OPS, "plus").is_none());
+    let rows = [row(Op::Add), row(Op::Snd)];
+    assert!(rt; find(&rows, "snd") == Some(1) && find(&rows, "plus").is_none());
 }
 
 #[test]

@@ -1,3 +1,4 @@
+use psac_syntax::TextConst;
 use psac_tokens::*;
 use std::alloc::{AllocError, Global};
 use std::test::Fail;
@@ -9,19 +10,41 @@ fn lexed(alloc: Global, text: &[u8]) -> Result<Option<Lexed>, AllocError> {
     Ok(Some(lex(alloc, text)?))
 }
 
+// Whether the token there is of this kind, at this place.
+fn is_token(tokens: &[Token], at: usize, kind: Kind, line: u32, column: u32) -> bool {
+    match tokens.get(at) {
+        Some(token) => token.kind == kind && token.line == line && token.column == column,
+        None => false,
+    }
+}
+
+// Whether the token there has this index among the names or texts, and this number.
+fn tells(tokens: &[Token], at: usize, index: u16, number: i64) -> bool {
+    match tokens.get(at) {
+        Some(token) => token.index == index && token.number == number,
+        None => false,
+    }
+}
+
 #[test]
 fn places(rt: HostRuntime) -> Result<(), Fail> {
-    let found = lex(rt.alloc(), b"read m # x\n <= 0012 m \"a\\n\" \"b")?.tokens;
-    assert_eq!(rt; found.len(), 7);
-    assert_eq!(rt; found[0].kind, Kind::Read);
-    assert_eq!(rt; (found[1].kind, found[1].index), (Kind::Name, 0));
-    assert_eq!(rt; found[2].kind, Kind::AtMost);
-    assert_eq!(rt; (found[2].line, found[2].column), (2, 2));
-    assert_eq!(rt; (found[3].kind, found[3].number), (Kind::Int, 12));
-    assert_eq!(rt; (found[4].kind, found[4].index), (Kind::Name, 0));
-    assert_eq!(rt; found[5].kind, Kind::Text);
-    assert_eq!(rt; (found[6].kind, found[6].column), (Kind::Unreadable, 18));
+    let found = lex(rt.alloc(), b"read m # x\n <= 0012 m \"a\\n\" \"b")?;
+    let tokens = found.tokens.as_slice();
+    assert!(rt; tokens.len() == 7);
+    assert!(rt; is_token(tokens, 0, Kind::Read, 1, 1));
+    assert!(rt; is_token(tokens, 2, Kind::AtMost, 2, 2));
+    assert!(rt; is_token(tokens, 3, Kind::Int, 2, 5) && tells(tokens, 3, 0, 12));
+    assert!(rt; is_token(tokens, 4, Kind::Name, 2, 10) && tells(tokens, 4, 0, 0));
+    assert!(rt; is_token(tokens, 6, Kind::Unreadable, 2, 18));
     Ok(())
+}
+
+// Whether the text there has these bytes.
+fn is_text(texts: &[TextConst], at: usize, bytes: &[u8]) -> bool {
+    match texts.get(at) {
+        Some(text) => text.bytes() == bytes,
+        None => false,
+    }
 }
 
 // Two spellings of one text, and another text.
@@ -31,13 +54,11 @@ fn texts(rt: HostRuntime) -> Result<(), Fail> {
         rt.alloc(),
         b"\"a\\\"\\\\\\n\" \"\" \"a\\\"\\\\\\n\" \"\xC3\xA9\"",
     )?;
-    assert_eq!(rt; found.texts.len(), 3);
-    let first = found.texts.get(0).ok_or("no text")?;
-    assert_eq!(rt; first.bytes(), b"a\"\\\n".as_slice());
-    let tokens = found.tokens;
-    assert_eq!(rt; tokens.len(), 5);
-    assert_eq!(rt; (tokens[0].index, tokens[1].index), (0, 1));
-    assert_eq!(rt; (tokens[2].index, tokens[3].index), (0, 2));
+    let tokens = found.tokens.as_slice();
+    assert!(rt; tokens.len() == 5 && found.texts.len() == 3);
+    assert!(rt; is_text(found.texts.as_slice(), 0, b"a\"\\\n"));
+    assert!(rt; tells(tokens, 0, 0, 0) && tells(tokens, 1, 1, 0));
+    assert!(rt; tells(tokens, 2, 0, 0) && tells(tokens, 3, 2, 0));
     Ok(())
 }
 
