@@ -1,6 +1,7 @@
 """What the tests share: where things stand, and how they run through pipes and through a terminal."""
 import os
 import pty
+import re
 import select
 import shutil
 import signal
@@ -19,6 +20,8 @@ PATIENCE = 180
 sys.path.insert(0, ROOT)
 
 DOUBLE = "func main(; out) {\n  read cell(0, 0) as x {\n    write out = x * 2;\n  }\n}\n"
+# The line about a long run, from where it is first shown to where it is taken away.
+PROGRESS = re.compile(rb"(?:\rpsac: [^\r\n]*)+\r +\r")
 NOT_KEPT = "PSAC_HINTS", "NO_COLOR", "XDG_STATE_HOME", "PYTHONHOME", "PYTHONPATH"
 
 
@@ -44,6 +47,11 @@ def launched(words, folder=None, given=b"", **variables):
 def bare(words, folder=None, given=b""):
     """Runs the program itself through pipes."""
     return ran([PROGRAM, *words], cwd=folder, input=given)
+
+
+def without_progress(seen):
+    """What was seen but for the line about a long run, which also a short one has on a machine with much else to do."""
+    return PROGRESS.sub(b"", seen)
 
 
 def wait_for(is_so, what):
@@ -160,6 +168,11 @@ class Terminal:
 
     def type(self, text):
         os.write(self.end, text)
+
+    @property
+    def shown(self):
+        """What was seen but for the line about a long run."""
+        return without_progress(self.seen)
 
     def status(self):
         """Reads to the end, and gives the exit status, below 0 where a signal ended it."""

@@ -28,7 +28,7 @@ class Documents(support.Case):
             terminal.until(PROMPT.encode())
             terminal.type(line.encode() + b"\n")
         self.assertEqual(terminal.status(), 0)
-        return f"{command}\n" + terminal.seen.decode().replace("\r\n", "\n")
+        return f"{command}\n" + terminal.shown.decode().replace("\r\n", "\n")
 
     def test_sessions(self):
         blocks = list(sessions())

@@ -53,7 +53,7 @@ class Prompt(support.Case):
         """Types a line, and gives what comes between it and the next prompt."""
         line = line if isinstance(line, bytes) else line.encode()
         self.terminal.type(line + b"\n")
-        seen = self.terminal.until(PROMPT)
+        seen = support.without_progress(self.terminal.until(PROMPT))
         self.assertTrue(seen.startswith(line + b"\r\n"), seen)
         return seen[len(line) + 2 : -len(PROMPT)]
 
@@ -176,12 +176,12 @@ class Session(Prompt):
         self.save("cut.psac", "func main(; out) { write out = -1; }")
         it = self.begin(name="cut.psac")
         self.assertEqual(it.status(), 4)
-        self.assertTrue(it.seen.startswith(b"program line 1 column 32 syntax\r\nhint: cut.psac, line 1, column 32:\r\n"), it.seen)
-        self.assertNotIn(PROMPT, it.seen)
+        self.assertTrue(it.shown.startswith(b"program line 1 column 32 syntax\r\nhint: cut.psac, line 1, column 32:\r\n"), it.shown)
+        self.assertNotIn(PROMPT, it.shown)
         it = self.begin(name="missing.psac")
         self.assertEqual(it.status(), 3)
         wanted = b"hint: the program missing.psac could not be loaded: there is no such file\r\n"
-        self.assertTrue(it.seen.startswith(wanted), it.seen)
+        self.assertTrue(it.shown.startswith(wanted), it.shown)
 
     def test_errors_elsewhere(self):
         # The prompt is there, and the hints go nowhere, where standard error is no terminal.
@@ -332,46 +332,40 @@ class LongRun(Prompt):
         self.at_prompt(PSAC_PROGRAM=self.program)
         self.terminal.type(b"commit\n")
         self.terminal.until(b"commit\r\n")
-        seen = self.terminal.until(b" answered")
-        self.assertRegex(seen, rb"^\rpsac: [0-9]+ s, [0-9]+ MiB of memory, 0 commits answered$")
+        self.assertRegex(self.terminal.until(b" answered"), rb"^\rpsac: [0-9]+ s, [0-9]+ MiB of memory, 0 commits answered$")
         self.save("go", "")
-        seen = self.terminal.until(PROMPT)
-        self.assertRegex(seen, rb"\r {30,}\rmode=anew visited=0\r\npsac> $")
-        self.terminal.type(b"commit\n")
-        self.assertEqual(self.terminal.until(PROMPT), b"commit\r\nmode=anew visited=0\r\npsac> ")
+        self.assertRegex(self.terminal.until(PROMPT), rb"\r {30,}\rmode=anew visited=0\r\npsac> $")
+        self.assertEqual(self.reply("commit"), b"mode=anew visited=0\r\n")
         self.end()
 
-    def shown(self, command, **variables):
-        """Runs a command at a terminal. Once the line was seen, the program goes on. Gives what came before and behind."""
+    def shown(self, command, mark, **variables):
+        """Runs a command at a terminal. Once this was seen, the program goes on. Gives what came before and behind."""
         it = Terminal(self, ["sh", "-c", command], self.folder, PSAC_PROGRAM=self.program, **variables)
-        before = it.until(b"MiB of memory")
+        before = it.until(mark)
         self.save("go", "")
         self.assertEqual(it.status(), 0)
         return before, it.seen[len(before) :]
 
     def test_a_script(self):
+        # The first commit is answered at once, and the second one takes long.
         self.save("script", "nonsense\ncommit\ncommit\n")
-        before, behind = self.shown(f"'{support.LAUNCHER}' session double.psac cells.txt <script")
-        self.assertRegex(before, rb"^refused form\r\n\rpsac: [0-9]+ s, [0-9]+ MiB of memory$")
-        self.assertRegex(behind, rb"^, 0 commits answered(.|\r)*\r {30,}\rmode=anew visited=0\r\n(.|[\r\n])*hint: ")
+        command = f"'{support.LAUNCHER}' session double.psac cells.txt <script"
+        before, behind = self.shown(command, b"MiB of memory, 1 commit answered", FREE="1")
+        self.assertTrue(support.without_progress(before).startswith(b"refused form\r\nmode=anew visited=0\r\n\rpsac: "), before)
+        self.assertRegex(behind, rb"^(.|\r)*\r {30,}\rmode=anew visited=0\r\n(.|[\r\n])*hint: ")
 
     def test_report_elsewhere(self):
         self.save("script", "commit\n")
-        before, behind = self.shown(f"'{support.LAUNCHER}' session double.psac cells.txt <script >report")
-        self.assertRegex(before, rb"^\rpsac: [0-9]+ s, [0-9]+ MiB of memory$")
+        command = f"'{support.LAUNCHER}' session double.psac cells.txt <script >report"
+        before, behind = self.shown(command, b" answered")
+        self.assertRegex(before, rb"^\rpsac: [0-9]+ s, [0-9]+ MiB of memory, 0 commits answered$")
         self.assertRegex(behind, rb"\r {30,}\r$")
         self.assertEqual(self.saved("report"), b"mode=anew visited=0\n")
-
-    def test_counts_commits(self):
-        self.save("script", "commit\ncommit\n")
-        before, behind = self.shown(f"'{support.LAUNCHER}' session double.psac cells.txt <script", FREE="1")
-        self.assertTrue(before.startswith(b"mode=anew visited=0\r\n\rpsac: "), before)
-        self.assertTrue(behind.startswith(b", 1 commit answered"), behind)
 
     def test_once(self):
         slow = "import os, time\nwhile not os.path.exists('go'):\n    time.sleep(0.02)\nprint('out = 1')\n"
         self.program = self.save_command("slow", f"#!{sys.executable}\n{slow}")
-        before, behind = self.shown(f"'{support.LAUNCHER}' once double.psac cells.txt")
+        before, behind = self.shown(f"'{support.LAUNCHER}' once double.psac cells.txt", b"MiB of memory")
         self.assertRegex(before, rb"^\rpsac: [0-9]+ s, [0-9]+ MiB of memory$")
         self.assertRegex(behind, rb"^(.|\r)*\r {20,}\rout = 1\r\n$")
         self.assertNotIn(b"answered", behind)
@@ -395,24 +389,24 @@ class Once(support.Case):
         self.save("cut.psac", "func main(; out) { write out = -1; }")
         it = self.at_terminal([support.LAUNCHER, "once", "cut.psac", "cells.txt"])
         self.assertEqual(it.status(), 4)
-        self.assertIn(b"program line 1 column 32 syntax\r\nhint: ", it.seen)
+        self.assertIn(b"program line 1 column 32 syntax\r\nhint: ", it.shown)
         it = self.at_terminal([support.LAUNCHER, "once", "cut.psac", "cells.txt"], PSAC_HINTS="0")
         self.assertEqual(it.status(), 4)
-        self.assertEqual(it.seen, b"program line 1 column 32 syntax\r\n")
+        self.assertEqual(it.shown, b"program line 1 column 32 syntax\r\n")
 
     def test_only_standard_error_there(self):
         psac = f"'{support.LAUNCHER}'"
         session = f"{psac} session double.psac cells.txt </dev/null >report; echo status $?"
         it = self.at_terminal(["sh", "-c", f"{session}; {psac} once cells.txt double.psac >report"])
         it.status()
-        self.assertEqual(it.seen.split(b"\r\n")[0], b"status 0")
-        self.assertIn(b"hint: the two files look swapped", it.seen)
+        self.assertEqual(it.shown.split(b"\r\n")[0], b"status 0")
+        self.assertIn(b"hint: the two files look swapped", it.shown)
         self.assertEqual(self.saved("report"), b"program line 1 column 1 syntax\n")
 
     def test_a_script_in_a_pipe_has_no_prompt(self):
         it = self.at_terminal(["sh", "-c", f"printf 'commit\\nshow\\n' | '{support.LAUNCHER}' session double.psac cells.txt"])
         self.assertEqual(it.status(), 0)
-        self.assertEqual(it.seen, WORK + b"out = 42\r\n")
+        self.assertEqual(it.shown, WORK + b"out = 42\r\n")
 
     def test_ctrl_c_ends_a_run(self):
         # A run that reads its input from the terminal, and a session that does.
