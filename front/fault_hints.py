@@ -78,7 +78,7 @@ def why_no_number(field):
     if grid.is_int(bare):
         return "a number with blanks around it"
     if grid.is_fraction(bare):
-        return "a fraction, and numbers are whole"
+        return f"{'a number with a comma' if b',' in bare else 'a fraction'}, and numbers are whole"
     if not digits.isdigit():
         return ""
     if bare[:1] == b"+":

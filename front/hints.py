@@ -18,7 +18,8 @@ REFUSED = {
     "refused form": "that line is no command, and its parts have one space between them; "
     + code("'psac help SCRIPT'")
     + " lists the commands",
-    "refused range": "there is no such cell, or no room for so many rows: both count from 0, and the option --rows makes room",
+    "refused range": "there is no such cell, or no room for so many rows: cells count from 0, and the option --rows "
+    "makes room",
     "refused utf8": "the field isn't UTF-8",
     "refused limit": "the list of texts is full: use texts that are there, or numbers",
     "refused empty": "that place holds nothing",

@@ -94,6 +94,23 @@ class Programs(Case):
         self.assertEqual([it for it in said if it.startswith("  row")], [f'  row {row}, column 1: "x"' for row in range(3)])
         self.assertIn("  and 7 more", said)
 
+    def test_what_a_field_is(self):
+        for field, why in (
+            (b"95.5", '"95.5", a fraction, and numbers are whole'),
+            (b"1,234", '"1,234", a number with a comma, and numbers are whole'),
+            (b" 7", '" 7", a number with blanks around it'),
+            (b"007", '"007", a number with zeros before it'),
+            (b"+7", '"+7", a number with a plus before it'),
+            (b"9" * 19, f'"{"9" * 19}", a number of more than 64 bits'),
+            (b"1.2.3", '"1.2.3"'),
+            (b" ", '" ", blanks'),
+            (b"", '"", the empty text'),
+            (b"north", '"north"'),
+            (b"7", "7"),
+            (None, "nil, an empty cell"),
+        ):
+            self.assertEqual(fault_hints.content(field), why)
+
     def test_without_cells(self):
         # Where the input can't be looked at again, what the program says by itself is told still.
         source = self.source('func main(; a) { write a = "x" + 1; }')
