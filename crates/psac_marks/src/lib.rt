@@ -11,6 +11,3 @@ pub use psac_base::NoMemory;
 pub use psac_ops::Handle;
 pub use psac_slots::Full;
 pub use view::MarksSplit;
-
-#[cfg(test)]
-mod tests;

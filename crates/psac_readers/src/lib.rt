@@ -11,6 +11,3 @@ pub use psac_ops::Handle;
 pub use psac_slots::Full;
 pub use readers::{Link, Readers, ReadersPass};
 pub use view::ReadersSplit;
-
-#[cfg(test)]
-mod tests;

@@ -13,6 +13,3 @@ pub use full::Full;
 pub use list::FreeList;
 pub use psac_base::NoMemory;
 pub use psac_ops::Handle;
-
-#[cfg(test)]
-mod tests;

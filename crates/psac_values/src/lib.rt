@@ -11,6 +11,3 @@ pub use psac_ops::Handle;
 pub use psac_slots::Full;
 pub use values::{ValuePass, Values};
 pub use view::ValuesSplit;
-
-#[cfg(test)]
-mod tests;

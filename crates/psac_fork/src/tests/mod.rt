@@ -1,0 +1,6 @@
+// Of each table, and of passes over all of them.
+mod marks;
+mod passes;
+mod readers;
+mod slots;
+mod values;
