@@ -60,6 +60,7 @@ one_walk ks chain o (x ∷ xs) (y ∷ ys) a b =
     let e = same_some x y (sym a.0 ∙ b.0) in
     let r = one_walk ks chain (next_live ks (behind x chain)) xs ys a.1 (subst (λ z. Answers ks chain (next_live ks (behind z chain)) ys) (sym e) b.1) in
     λ i. e i ∷ r i
+
 times_lives : (ks : List LinkView) (l : ℕ) (ls : List ℕ) → times l (lives ks ls) ≡ cond (is_alive ks l) (times l ls) 0
 times_lives ks l [] = none (is_alive ks l)
   where
