@@ -49,7 +49,7 @@ module _ {N : Type 0} where
     sides_short Done (Stop why line) left right rest env heap l k r end a b g = inr (inl (Done, a, short right env (writes l ++ heap) k (Stop why line) b, g.0))
     sides_short (Stop why line) f left right rest env heap l k r end a b g = inr (inl (Stop why line, a, short right env (writes l ++ heap) k f b, g.0))
 
-    act_short : (a : Action N) (rest : List Stmt) (env : Env N) (heap : HeapOf N) (r : Rec N) (end : End) → acts room deep a rest env heap r end → cuts room deep first a rest env heap r 0
+    pub act_short : (a : Action N) (rest : List Stmt) (env : Env N) (heap : HeapOf N) (r : Rec N) (end : End) → acts room deep a rest env heap r end → cuts room deep first a rest env heap r 0
     act_short (Bind x v) rest env heap r end t = short rest (bind x v env) heap r end t
     act_short (Make d) rest env heap (A m r) end t = short rest (bind d (ref m) env) heap r end t
     act_short (Put m v) rest env heap (W k u r) end t = (t.0, t.1, short rest env ((k, u) ∷ heap) r end t.2)

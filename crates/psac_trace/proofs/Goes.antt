@@ -26,6 +26,8 @@ use Rattle.psac_laws.proofs.Values.{Where, Each, where_at, in_order_each}
 use Rattle.psac_laws.proofs.Calls.{distinct_parts}
 use Rattle.psac_traced.specs.Rec.{Rec, E, held_by}
 use Rattle.psac_traced.specs.Holds.{EachOf}
+use Rattle.psac_cut.specs.CutShort.{cuts, cut_short}
+use Rattle.psac_cut.proofs.Based.{cut_on_acts}
 use Rattle.psac_traced.specs.Traced.{listed, acts, traced}
 use Rattle.psac_trace.specs.Rights.{Heap, held, Named, Wider, Sees, Ready}
 use Rattle.psac_trace.specs.Asking.{AllSought, Readable, Looked}
@@ -276,18 +278,19 @@ module _ (w : Setting Handle) (funcs : List Func) (checked : AreChecked funcs) w
           where_at (λ z. Sights z u) (action_of (listed w) w funcs env n.0 (out-Stmt s)) a (asked n.0 (readable n.0 n.1 n.2 n.3 n.4 n.0 (λ j x e. e)))
           (act_sights rest n.1 p.mid n.2 env u n.0 p.rest k (out-Stmt s))
 
-      pub tells_act : (room : ℕ) (x : ValueView) (e : Ended (Rec Handle)) → TellsAct w room (traced w funcs room) a rest env u x e → Tells w (traced w funcs (suc room)) (s ∷ rest) env v x e
+      pub tells_act : (room : ℕ) (x : ValueView) (e : Ended (Rec Handle)) → TellsAct w room (traced w funcs room) (cut_short w funcs room) a rest env u x e → Tells w (traced w funcs (suc room)) (cut_short w funcs (suc room)) (s ∷ rest) env v x e
       tells_act room x e told base st end m r =
           let p = steps s rest st end m in
-          same_ended (traced w funcs (suc room)) (s ∷ rest) st end.unwritten env v x base e
-          (lift_told (acts room (traced w funcs room) a) (traced w funcs (suc room)) rest (s ∷ rest) env env v u x base base st st end.unwritten end.unwritten (λ c. c)
+          same_ended (traced w funcs (suc room)) (cut_short w funcs (suc room)) (s ∷ rest) st end.unwritten env v x base e
+          (lift_told (acts room (traced w funcs room) a) (traced w funcs (suc room)) (cuts room (traced w funcs room) (cut_short w funcs room) a) (cut_short w funcs (suc room)) rest (s ∷ rest) env env v u x base base st st end.unwritten end.unwritten (λ c. c)
           (λ heap wi c last h. run_more w funcs room s rest env heap c last (Ok a) (asked heap (readable base st end m r heap wi)) (h heap wi))
           (λ c f. f)
           (λ c f mv. moved_looked st end.unwritten env v u x base _ l mv)
           (λ z. z)
+          (λ c n k. cut_on_acts same_handle w funcs room s rest env base a c n (λ heap wi. asked heap (readable base st end m r heap wi)) k)
           e (told base st p.mid end p.rest (ready_looked w st end.unwritten env v u base l r) (goes_at base st end m r)))
 
-    pub tells_fault : (room : ℕ) (k : FaultKind) → ((heap : Heap) → Readable w env v heap (out-Stmt s) → action_of (listed w) w funcs env heap (out-Stmt s) ≡ Err k) → Tells w (traced w funcs (suc room)) (s ∷ rest) env v u (Fault E k (line_of (out-Stmt s)))
+    pub tells_fault : (room : ℕ) (k : FaultKind) → ((heap : Heap) → Readable w env v heap (out-Stmt s) → action_of (listed w) w funcs env heap (out-Stmt s) ≡ Err k) → Tells w (traced w funcs (suc room)) (cut_short w funcs (suc room)) (s ∷ rest) env v u (Fault E k (line_of (out-Stmt s)))
     tells_fault room k asked base st end m r = (
       record {
         run = λ heap wi. run_more w funcs room s rest env heap E (Stop k (line_of (out-Stmt s))) (Err k) (asked heap (readable base st end m r heap wi)) (refl, refl);

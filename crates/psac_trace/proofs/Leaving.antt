@@ -1,5 +1,5 @@
 -- What a call made, by how it ended: behind what was made before, and round what was recorded.
-use Rattle.std.proofs.Common.{◌≡◌, ◌+◌, ◌≤◌, List, [], ◌∷◌, ◌++◌, map, Option, Some, None, refl, ap, sym, ◌∙◌, subst, arith}
+use Rattle.std.proofs.Common.{◌≡◌, ◌+◌, ◌≤◌, List, [], ◌∷◌, ◌++◌, map, Option, Some, None, refl, ap, sym, ◌∙◌, subst, arith, length, length-append}
 use Rattle.psac_ops.specs.declared.plain.Handle.{Handle}
 use Rattle.psac_fork.specs.declared.tables.Pass.{Pass}
 use Rattle.psac_fork.specs.declared.tables.Tables.{Tables}
@@ -11,11 +11,11 @@ use Rattle.psac_traced.specs.Rec as rec
 use Rattle.psac_traced.specs.Rec.{Rec}
 use Rattle.psac_record.specs.declared.parts.Reading.{Reading}
 use Rattle.psac_record.specs.Kept.{Kept, E, S, P, R, bare, nodes_below, stands}
-use Rattle.psac_trace.specs.Grown.{Made, nothing, followed, made_below, count, claims_in, as_own, Moves, Cause, IsFull}
+use Rattle.psac_trace.specs.Grown.{Made, nothing, followed, made_below, claims_in, as_own, Moves, Cause, IsFull}
 use Rattle.psac_trace.specs.Told.{Ended, Good, Fault, Other, what, then_ended, bared, is_other, first_why, both_ended, Follows}
 use Rattle.psac_trace.specs.Running.{RoomAfter, AtMost, AllMade, FullBy, nodes_only, read_made}
 use Rattle.psac_trace.proofs.Claims.{append_none}
-use Rattle.psac_trace.proofs.Moving.{each_cap, count_followed, moves_then, full_then}
+use Rattle.psac_trace.proofs.Moving.{each_cap, moves_then, full_then}
 
 -- ends without nodes and links
 
@@ -28,6 +28,11 @@ pub what_bared : (e : Ended Kept) → what (bared e) ≡ bare (what e)
 what_bared (Good k) = refl
 what_bared (Fault k i n) = refl
 what_bared (Other k why) = refl
+
+pub what_then : (f : Kept → Kept) (e : Ended Kept) → what (then_ended f e) ≡ f (what e)
+what_then f (Good k) = refl
+what_then f (Fault k i n) = refl
+what_then f (Other k why) = refl
 
 pub why_bared : (why : Option Cause) (e : Ended Kept) → first_why why (bared e) ≡ first_why why e
 why_bared None e = refl
@@ -97,24 +102,38 @@ full_before t p u q a (Other k None) m h = tt
 
 -- what was made
 
-pub most_same : (q : Pass) → HasRoom q → (made begun : Made) → ((c : CapKind) → count c made ≡ count c begun) → AtMost q made begun
-most_same q h made begun e c = let o = room_over q h c in let n = e c in omega (arith, o, n)
+-- the modifiables that were begun, and no more nodes and links
+abbrev pub NoMore : Pass → Made → Made → Type 0
+NoMore q made begun = (made.mods ≡ begun.mods) × AtMost q made begun
+
+pub most_same : (q : Pass) → HasRoom q → (made begun : Made) → length made.nodes ≡ length begun.nodes → length made.links ≡ length begun.links → AtMost q made begun
+most_same q h made begun n l = let o = h.1 in let k = h.2 in (omega (arith, k, n), omega (arith, o, l))
+
+pub most_is : (q : Pass) → HasRoom q → (made begun : Made) → made ≡ begun → NoMore q made begun
+most_is q h made begun e = (ap (λ (z : Made). z.mods) e, most_same q h made begun (ap (λ (z : Made). length z.nodes) e) (ap (λ (z : Made). length z.links) e))
 
 pub all_follows : (g : Kept → Made) (q : Pass) (made : Made) (e o : Ended Kept) → Follows e o → RoomAfter q e → AllMade g q made e → AllMade g q made o
 all_follows g q made e (Good k) f r h = subst (AllMade g q made) f h
 all_follows g q made e (Fault k i n) f r h = subst (AllMade g q made) f h
 all_follows g q made e (Other k (Some c)) f r h = subst (AllMade g q made) f h
-all_follows g q made (Good j) (Other k None) f r h = most_same q r made (g k) (λ c. ap (count c) (h ∙ ap g f))
-all_follows g q made (Fault j i n) (Other k None) f r h = most_same q r made (g k) (λ c. ap (count c) (h ∙ ap g f))
-all_follows g q made (Other j why) (Other k None) f r h = subst (λ z. AtMost q made (g z)) f h
+all_follows g q made (Good j) (Other k None) f r h = most_is q r made (g k) (h ∙ ap g f)
+all_follows g q made (Fault j i n) (Other k None) f r h = most_is q r made (g k) (h ∙ ap g f)
+all_follows g q made (Other j why) (Other k None) f r h = subst (λ z. NoMore q made (g z)) f h
 
 pub all_map : (g h : Kept → Made) (f : Kept → Kept) → ((k : Kept) → g k ≡ h (f k)) → (q : Pass) (made : Made) (e : Ended Kept) → AllMade g q made e → AllMade h q made (then_ended f e)
 all_map g h f s q made (Good k) a = a ∙ s k
 all_map g h f s q made (Fault k i n) a = a ∙ s k
-all_map g h f s q made (Other k why) a = subst (AtMost q made) (s k) a
+all_map g h f s q made (Other k why) a = subst (NoMore q made) (s k) a
 
-pub most_front : (q : Pass) (m a b : Made) → AtMost q a b → AtMost q (followed m a) (followed m b)
-most_front q m a b h c = let x = count_followed m a c in let y = count_followed m b c in let z = h c in omega (arith, x, y, z)
+pub most_front : (q : Pass) (m a b : Made) → NoMore q a b → NoMore q (followed m a) (followed m b)
+most_front q m a b h =
+    let x = length-append m.nodes a.nodes in
+    let y = length-append m.nodes b.nodes in
+    let x' = length-append m.links a.links in
+    let y' = length-append m.links b.links in
+    let n = h.1.0 in
+    let l = h.1.1 in
+    (ap (λ z. m.mods ++ z) h.0, (omega (arith, x, y, n), omega (arith, x', y', l)))
 
 pub all_front : (m : Made) (g : Kept → Made) (q : Pass) (made : Made) (e : Ended Kept) → AllMade g q made e → AllMade (λ k. followed m (g k)) q (followed m made) e
 all_front m g q made (Good k) a = ap (followed m) a
@@ -122,9 +141,9 @@ all_front m g q made (Fault k i n) a = ap (followed m) a
 all_front m g q made (Other k why) a = most_front q m made (g k) a
 
 -- whatever the end, no more was made than was begun
-pub all_most : (g : Kept → Made) (q : Pass) (made : Made) (e : Ended Kept) → RoomAfter q e → AllMade g q made e → AtMost q made (g (what e))
-all_most g q made (Good k) r a = most_same q r made (g k) (λ c. ap (count c) a)
-all_most g q made (Fault k i n) r a = most_same q r made (g k) (λ c. ap (count c) a)
+pub all_most : (g : Kept → Made) (q : Pass) (made : Made) (e : Ended Kept) → RoomAfter q e → AllMade g q made e → NoMore q made (g (what e))
+all_most g q made (Good k) r a = most_is q r made (g k) a
+all_most g q made (Fault k i n) r a = most_is q r made (g k) a
 all_most g q made (Other k why) r a = a
 
 -- how records are made up of their parts
@@ -196,15 +215,20 @@ all_both g l k j a b f h m s over one two ro rt x y = pick one two ro rt x y
     same : (i z : Kept) → a ≡ g i → b ≡ g z → followed m (followed a b) ≡ h (f i z)
     same i z p q = ap (λ n. followed m (followed n b)) p ∙ ap (λ n. followed m (followed (g i) n)) q ∙ s i z
 
-    most : (i z : Kept) → AtMost l a (g i) → AtMost k b (g z) → AtMost j (followed m (followed a b)) (h (f i z))
-    most i z p q = subst (AtMost j (followed m (followed a b))) (s i z)
-        (most_front j m (followed a b) (followed (g i) (g z)) (λ c.
-        let n = count_followed a b c in
-        let n' = count_followed (g i) (g z) c in
-        let p' = p c in
-        let q' = q c in
-        let o = over c in
-        omega (arith, n, n', p', q', o)))
+    most : (i z : Kept) → NoMore l a (g i) → NoMore k b (g z) → NoMore j (followed m (followed a b)) (h (f i z))
+    most i z p q = subst (NoMore j (followed m (followed a b))) (s i z)
+        (most_front j m (followed a b) (followed (g i) (g z))
+        (let n = length-append a.nodes b.nodes in
+        let n' = length-append (g i).nodes (g z).nodes in
+        let l = length-append a.links b.links in
+        let l' = length-append (g i).links (g z).links in
+        let on = over cap.Nodes in
+        let ol = over cap.Links in
+        let pn = p.1.0 in
+        let pl = p.1.1 in
+        let qn = q.1.0 in
+        let ql = q.1.1 in
+        (ap (λ x. x ++ b.mods) p.0 ∙ ap (λ x. (g i).mods ++ x) q.0, (omega (arith, n, n', on, pn, qn), omega (arith, l, l', ol, pl, ql)))))
 
     pick : (one two : Ended Kept) → RoomAfter l one → RoomAfter k two → AllMade g l a one → AllMade g k b two → AllMade h j (followed m (followed a b)) (both_ended f one two)
     pick (Good i) (Good z) ro rt p q = same i z p q

@@ -105,6 +105,10 @@ pub record BesideMarks (p q : Pass) : Type 0 where
   pub values : q.values ≡ p.values
   pub readers : q.readers ≡ p.readers
 
+-- a claim in vain gives nothing
+pub vain_mine : (v u : ValueView) (n : ℕ) → length v.claims.list ≤ n → u ≡ values.drew v n → u.mine ≡ v.mine
+vain_mine v u n h e = ap (λ (z : ValueView). z.mine) e ∙ ap (λ es. v.mine ++ map (new_owned v.fixed) es) (entry_past v.claims.list n h) ∙ append_none v.mine
+
 module _ (t : Tables) (p q : Pass) (of : IsOf p t) (tidy : Tidy p.values.knows) (fit : Fit p) where
   module _ (b : BesideValues p q) where
     pub values_of : IsOf q t

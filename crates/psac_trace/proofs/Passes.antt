@@ -1,5 +1,5 @@
 -- What the calls of the tracing run owe each other, by what their parts leave.
-use Rattle.std.proofs.Common.{◌≡◌, ℕ, suc, zero, ◌+◌, ◌-◌, ◌≤◌, ◌<◌, Bool, true, false, List, [], ◌∷◌, ◌++◌, length, drop, take, get_or, Option, Some, None, Result, Ok, Err, refl, ap, sym, ◌∙◌, subst, arith}
+use Rattle.std.proofs.Common.{◌≡◌, ℕ, suc, zero, ◌+◌, ◌-◌, ◌≤◌, ◌<◌, Bool, true, false, List, [], ◌∷◌, ◌++◌, length, drop, take, get_or, Option, Some, None, Result, Ok, Err, refl, ap, sym, ◌∙◌, subst, arith, append-nil}
 use Rattle.std.proofs.Math.Seq.{take-length}
 use Rattle.psac_ops.specs.declared.plain.Handle.{Handle}
 use Rattle.psac_ops.specs.declared.plain.Plain.{Plain}
@@ -19,7 +19,6 @@ use Rattle.psac_marks.specs.Passes.{Keeps, United as UnitedNodes}
 use Rattle.psac_fork.specs.declared.tables.Pass.{Pass}
 use Rattle.psac_fork.specs.declared.tables.Tables.{Tables}
 use Rattle.psac_fork.specs.Whole.{IsOf, HasRoom}
-use Rattle.psac_model.specs.declared.ends.CapKind.{CapKind}
 use Rattle.psac_model.specs.declared.ends.CapKind.TheVariants as cap
 use Rattle.psac_model.specs.declared.ends.FaultKind.{FaultKind}
 use Rattle.psac_model.specs.declared.ends.FaultKind.TheVariants.{TooDeep}
@@ -39,33 +38,54 @@ use Rattle.psac_plain.specs.declared.halt.Halt.TheVariants as stop_kind
 use Rattle.psac_plain.specs.Slots.{Halts}
 use Rattle.psac_trace.specs.declared.halt.Halt.{Halt}
 use Rattle.psac_trace.specs.declared.halt.Halt.TheVariants as halt
-use Rattle.psac_trace.specs.Rights.{Heap, Tidy, Kept as Stays}
+use Rattle.psac_trace.specs.Rights.{Heap, Sees, Tidy, Kept as Stays}
 use Rattle.psac_trace.specs.Asking.{Readable, Looked}
-use Rattle.psac_trace.specs.Told.{Ended, Good, Fault, Other, Needs, Tells, ended_of, halted, both_ended, then_ended, bared, Follows, is_other, stop_ended}
+use Rattle.psac_trace.specs.Told.{Ended, Good, Fault, Other, Needs, Tells, ended_of, halted, both_ended, then_ended, bared, Follows, is_other, stop_ended, what}
 use Rattle.psac_trace.specs.Divided.{neither, writes_slot, sets_shared}
 use Rattle.psac_trace.specs.Fit.{ParentKept, both_have}
-use Rattle.psac_trace.specs.Grown.{Made, nothing, followed, made_below, count, claims_in, Moves}
-use Rattle.psac_trace.specs.Running.{NeedsAct, TellsAct, TellsBoth, RoomAfter, AtMost, AllMade, FullBy, Begins, Leaves, BeginsAct, LeavesAct, LeavesBoth, BeginsAfter, LeavesAfter, Opens, HaltsFor, nodes_only, read_made, Began}
+use Rattle.psac_trace.specs.Grown.{Made, nothing, followed, made_below, claims_in, Moves, Cause}
+use Rattle.psac_trace.specs.Running.{NeedsAct, TellsAct, TellsBoth, RoomAfter, AllMade, FullBy, Begins, Leaves, BeginsAct, LeavesAct, LeavesBoth, BeginsAfter, LeavesAfter, Opens, HaltsFor, nodes_only, read_made, Began}
 use Rattle.psac_trace.proofs.Claims.{over_past, drawn_more}
 use Rattle.psac_trace.proofs.Growing.{keeps_on}
-use Rattle.psac_trace.proofs.Moving.{each_cap, moves_none, moves_then, full_then, full_more, BesideValues, values_room, moves_looked, moves_wrote, moves_claimed, moves_vain, fit_left, fit_right, parent_left, parent_right, room_left, room_right, moves_joined, full_left, full_right, over_joined}
-use Rattle.psac_trace.proofs.Leaving.{Does, does_then, bared_then, bared_both, follows_bared, other_bared, room_over, room_follows, full_follows, full_before, most_same, most_front, all_front, all_follows, inside, step_made, step_end, sides_made, side_made, block_made, all_both, room_both, full_both, room_from}
-use Rattle.psac_trace.proofs.Views.{kept_then, three_is}
+use Rattle.psac_trace.proofs.Moving.{vain_mine, moves_none, moves_then, full_then, full_more, BesideValues, values_room, moves_looked, moves_wrote, moves_claimed, moves_vain, fit_left, fit_right, parent_left, parent_right, room_left, room_right, moves_joined, full_left, full_right, over_joined}
+use Rattle.psac_ops.specs.Named.{same_handle}
+use Rattle.psac_cut.specs.CutShort.{Cuts, cuts, cut_short}
+use Rattle.psac_cut.specs.Based.{CutOn}
+use Rattle.psac_cut.proofs.Cutting.{StartsEmpty, Shortens, act_short}
+use Rattle.psac_cut.proofs.Based.{before, vain_new, at_new, at_body, at_block, bare_sides, cut_on_none}
+use Rattle.psac_trace.proofs.Asked.{sees_looked}
+use Rattle.psac_trace.proofs.Leaving.{Does, does_then, bared_then, bared_both, follows_bared, other_bared, room_over, room_follows, full_follows, full_before, most_is, NoMore, most_front, what_bared, what_then, all_front, all_follows, inside, step_made, step_end, sides_made, side_made, block_made, all_both, room_both, full_both, room_from, room_then}
+use Rattle.psac_trace.proofs.Views.{claimed_sees, sees_same, kept_then, three_is}
 use Rattle.psac_trace.proofs.Forks.{left_tidy, right_tidy}
-use Rattle.psac_trace.proofs.Tells.{told_follows, tells_end, tells_deep, needs_bind, tells_bind, needs_make, tells_make, may_write, needs_put, tells_put, needs_body, needs_body_on, tells_body_on, tells_body_stop, needs_block, needs_block_on, tells_block_on, tells_block_stop, needs_par_on, tells_par_on, tells_par_stop, needs_left, needs_right, tells_forked, needs_first, needs_second, tells_second, both_follows}
+use Rattle.psac_trace.proofs.Tells.{told_follows, tells_end, tells_deep, needs_bind, tells_bind, needs_make, tells_make, may_write, needs_put, tells_put, needs_body, needs_body_on, tells_body_on, tells_body_stop, tells_body_cut, needs_block, needs_block_on, tells_block_on, tells_block_stop, tells_block_first, needs_par_on, tells_par_on, tells_par_stop, tells_par_cut, tells_left_out, both_begun, Whole, needs_left, needs_right, tells_forked, needs_first, needs_second, tells_second, both_follows}
 use Rattle.psac_trace.proofs.Goes.{needs_readable, needs_act, sights_act, tells_act, tells_fault}
 
 suc_less : (room : ℕ) → 0 < room → suc (room - 1) ≡ room
 suc_less zero h = absurd (omega arith)
 suc_less (suc n) h = omega arith
 
-act_follows : (w : Setting Handle) (room : ℕ) (deep : Tracing Handle) (a : Action Handle) (rest : List Stmt) (env : Env Handle) (v u : ValueView) (e o : Ended (Rec Handle)) → Follows e o → TellsAct w room deep a rest env v u e → TellsAct w room deep a rest env v u o
-act_follows w room deep a rest env v u e o f t base st mid end more r g = told_follows (acts room deep a) rest st end.unwritten env v u base e o f (t base st mid end more r g)
+-- a call that wants nothing drew nothing in vain
+whole_of : (q : Pass) (e : Ended Kept) → RoomAfter q e → Whole q.values.knows (bared e)
+whole_of q (Good k) r o = r.0
+whole_of q (Fault k i n) r o = r.0
+whole_of q (Other k why) r o = absurd cc
+
+act_follows : (w : Setting Handle) (room : ℕ) (deep : Tracing Handle) (first : Cuts Handle) → Shortens deep first → (a : Action Handle) (rest : List Stmt) (env : Env Handle) (v u : ValueView) (e o : Ended (Rec Handle)) → Whole u e → Follows e o → TellsAct w room deep first a rest env v u e → TellsAct w room deep first a rest env v u o
+act_follows w room deep first short a rest env v u e o z f t base st mid end more r g =
+    told_follows (acts room deep a) (cuts room deep first a) (λ body env heap x last h. act_short room deep first short a body env heap x last h) rest st end.unwritten env v u base e o z f (t base st mid end more r g)
 
 -- a part before the rest
-act_then : (w : Setting Handle) (room : ℕ) (deep : Tracing Handle) (a : Action Handle) (rest : List Stmt) (env : Env Handle) (v u : ValueView) (f : Kept → Kept) (F : Rec Handle → Rec Handle) (e o : Ended Kept) → ((k : Kept) → bare (f k) ≡ F (bare k)) → Follows (then_ended f e) o → TellsAct w room deep a rest env v u (then_ended F (bared e)) → TellsAct w room deep a rest env v u (bared o)
-act_then w room deep a rest env v u f F e o s fo t =
-    act_follows w room deep a rest env v u (bared (then_ended f e)) (bared o) (follows_bared (then_ended f e) o fo) (subst (TellsAct w room deep a rest env v u) (sym (bared_then f F s e)) t)
+act_then : (w : Setting Handle) (room : ℕ) (deep : Tracing Handle) (first : Cuts Handle) → Shortens deep first → (a : Action Handle) (rest : List Stmt) (env : Env Handle) (v : ValueView) (q : Pass) (f : Kept → Kept) (F : Rec Handle → Rec Handle) (e o : Ended Kept) → ((k : Kept) → bare (f k) ≡ F (bare k)) → RoomAfter q e → Follows (then_ended f e) o → TellsAct w room deep first a rest env v q.values.knows (then_ended F (bared e)) → TellsAct w room deep first a rest env v q.values.knows (bared o)
+act_then w room deep first short a rest env v q f F e o s ro fo t =
+    act_follows w room deep first short a rest env v q.values.knows (bared (then_ended f e)) (bared o) (whole_of q (then_ended f e) (room_then q f e ro)) (follows_bared (then_ended f e) o fo)
+    (subst (TellsAct w room deep first a rest env v q.values.knows) (sym (bared_then f F s e)) t)
+
+-- what was begun is a first part, where no words changed
+begun_tells : (w : Setting Handle) (room : ℕ) (deep : Tracing Handle) (first : Cuts Handle) (a : Action Handle) (rest : List Stmt) (env : Env Handle) (v u : ValueView) (r : Rec Handle) (why : Option Cause) → v.claims.over ≡ 0 → u ≡ v → ((base : Heap) → CutOn same_handle (cuts room deep first a) rest env base r 0) → TellsAct w room deep first a rest env v u (Other r why)
+begun_tells w room deep first a rest env v u r why o e c base st mid end more x g = (
+  subst (CutOn same_handle (cuts room deep first a) rest env base r) (sym (ap (λ (z : ValueView). z.claims.over) e ∙ o)) (c base),
+  λ m y h. subst (λ z. Sees z m y) (sym e) (x.sees m y h),
+)
 
 -- the halt alone tells what it ends with
 pub begins_any : (w : Setting Handle) (funcs : List Func) (t : Tables) (node : Handle) (j k : Kept) (r : Result Record Halt) (rest : List Stmt) (env : Env Handle) (p : Pass) → BeginsAfter w funcs t node (ended_of j r) rest env p → BeginsAfter w funcs t node (ended_of k r) rest env p
@@ -74,30 +94,38 @@ begins_any w funcs t node j k (Err (halt.Fault _ _)) rest env p h = tt
 begins_any w funcs t node j k (Err (halt.Full _ _)) rest env p h = tt
 begins_any w funcs t node j k (Err halt.NoMemory) rest env p h = tt
 
-pub after_halt : (w : Setting Handle) (deep : Tracing Handle) (t : Tables) (node : Handle) (k : Kept) (h : Halt) (rest : List Stmt) (env : Env Handle) (p : Pass) → LeavesAfter w deep t node (halted k h) rest env p p (halted (S node k E) h)
-after_halt w deep t node k (halt.Fault _ _) rest env p = (refl, refl)
-after_halt w deep t node k (halt.Full _ _) rest env p = (refl, refl)
-after_halt w deep t node k halt.NoMemory rest env p = (refl, refl)
+pub after_halt : (w : Setting Handle) (deep : Tracing Handle) (first : Cuts Handle) (t : Tables) (node : Handle) (k : Kept) (h : Halt) (rest : List Stmt) (env : Env Handle) (p : Pass) → LeavesAfter w deep first t node (halted k h) rest env p p (halted (S node k E) h)
+after_halt w deep first t node k (halt.Fault _ _) rest env p = (refl, refl)
+after_halt w deep first t node k (halt.Full _ _) rest env p = (refl, refl)
+after_halt w deep first t node k halt.NoMemory rest env p = (refl, refl)
 
 -- where slots or memory were wanting for nodes and links
-does_want : (g : Kept → Made) (t : Tables) (p q : Pass) (k : Kept) (begun : Made) (h : Halt) → ((c : CapKind) → count c begun ≡ count c (g k)) → HaltsFor t p q begun h → Does g t p q (halted k h)
-does_want g t p q k begun (halt.Fault _ _) e w = absurd w
-does_want g t p q k begun (halt.Full which at) e w = record { made = w.made; moves = w.moves; all = λ c. subst (λ z. count c w.made + (claims_in c q).over ≤ z) (e c) (w.most c); room = tt; full = w.full }
-does_want g t p q k begun halt.NoMemory e w = record { made = w.made; moves = w.moves; all = λ c. subst (λ z. count c w.made + (claims_in c q).over ≤ z) (e c) (w.most c); room = tt; full = tt }
+does_want : (g : Kept → Made) (t : Tables) (p q : Pass) (k : Kept) (begun : Made) (h : Halt) → begun.mods ≡ (g k).mods → length begun.nodes ≡ length (g k).nodes → length begun.links ≡ length (g k).links → HaltsFor t p q begun h → Does g t p q (halted k h)
+does_want g t p q k begun (halt.Fault _ _) m n l w = absurd w
+does_want g t p q k begun (halt.Full which at) m n l w =
+    record { made = w.made; moves = w.moves; all = (w.mods ∙ m, (let x = w.most.0 in let y = w.most.1 in (omega (arith, x, n), omega (arith, y, l)))); room = tt; full = w.full }
+does_want g t p q k begun halt.NoMemory m n l w = record { made = w.made; moves = w.moves; all = (w.mods ∙ m, (let x = w.most.0 in let y = w.most.1 in (omega (arith, x, n), omega (arith, y, l)))); room = tt; full = tt }
 
-halt_tells_act : (w : Setting Handle) (room : ℕ) (deep : Tracing Handle) (a : Action Handle) (rest : List Stmt) (env : Env Handle) (v u : ValueView) (t : Tables) (p q : Pass) (begun : Made) (k : Kept) (h : Halt) → HaltsFor t p q begun h → TellsAct w room deep a rest env v u (bared (halted k h))
-halt_tells_act w room deep a rest env v u t p q begun k (halt.Fault _ _) x = absurd x
-halt_tells_act w room deep a rest env v u t p q begun k (halt.Full _ _) x = λ base st mid end more r g. tt
-halt_tells_act w room deep a rest env v u t p q begun k halt.NoMemory x = λ base st mid end more r g. tt
+halt_tells_act : (w : Setting Handle) (room : ℕ) (deep : Tracing Handle) (first : Cuts Handle) (a : Action Handle) (rest : List Stmt) (env : Env Handle) (t : Tables) (p q : Pass) (begun : Made) (k : Kept) (h : Halt) → HasRoom p → ((base : Heap) → CutOn same_handle (cuts room deep first a) rest env base (bare k) 0) → HaltsFor t p q begun h → TellsAct w room deep first a rest env p.values.knows q.values.knows (bared (halted k h))
+halt_tells_act w room deep first a rest env t p q begun k (halt.Fault _ _) o c x = absurd x
+halt_tells_act w room deep first a rest env t p q begun k (halt.Full which at) o c x = begun_tells w room deep first a rest env p.values.knows q.values.knows (bare k) (Some (record { which = which; index = at.index; room = at.room })) o.0 x.same c
+halt_tells_act w room deep first a rest env t p q begun k halt.NoMemory o c x = begun_tells w room deep first a rest env p.values.knows q.values.knows (bare k) None o.0 x.same c
 
-module _ (w : Setting Handle) (funcs : List Func) (room : ℕ) (deep : Tracing Handle) (t : Tables) (a : Action Handle) (rest : List Stmt) (env : Env Handle) (par : Option Handle) (p : Pass) where
-  act_of : (q : Pass) (e : Ended Kept) → Does (made_below par) t p q e → TellsAct w room deep a rest env p.values.knows q.values.knows (bared e) → LeavesAct w room deep t a rest env par p q e
+module _ (w : Setting Handle) (funcs : List Func) (room : ℕ) (deep : Tracing Handle) (first : Cuts Handle) (none : StartsEmpty first) (short : Shortens deep first) (t : Tables) (a : Action Handle) (rest : List Stmt) (env : Env Handle) (par : Option Handle) (p : Pass) where
+  act_of : (q : Pass) (e : Ended Kept) → Does (made_below par) t p q e → TellsAct w room deep first a rest env p.values.knows q.values.knows (bared e) → LeavesAct w room deep first t a rest env par p q e
   act_of q e d h = record { made = d.made; moves = d.moves; all = d.all; room = d.room; full = d.full; tells = h }
 
   -- want of memory, before anything was done
-  pub leaves_unbound : BeginsAct w funcs t a rest env par p → LeavesAct w room deep t a rest env par p p (Other E None)
+  pub leaves_unbound : BeginsAct w funcs t a rest env par p → LeavesAct w room deep first t a rest env par p p (Other E None)
   leaves_unbound b =
-      record { made = nothing; moves = moves_none t p b.of b.tidy b.fit; all = most_same p b.room nothing (made_below par E) (each_cap (λ c. count c nothing ≡ count c (made_below par E)) refl refl refl); room = tt; full = tt; tells = λ base st mid end more r g. tt }
+      record {
+        made = nothing;
+        moves = moves_none t p b.of b.tidy b.fit;
+        all = most_is p b.room nothing (made_below par E) refl;
+        room = tt;
+        full = tt;
+        tells = begun_tells w room deep first a rest env p.values.knows p.values.knows rec.E None b.room.0 refl (λ base. before same_handle room deep first rest env base none a);
+      }
 
   -- let
   module _ (x : ℕ) (y : Value Handle) (inner : Env Handle) (is : a ≡ Bind x y) (env_is : inner ≡ bind x y env) where
@@ -110,10 +138,10 @@ module _ (w : Setting Handle) (funcs : List Func) (room : ℕ) (deep : Tracing H
           tidy = b.tidy;
           fit = b.fit;
           parent = b.parent;
-          needs = subst (λ z. Needs w rest z p.values.knows) (sym env_is) (needs_bind w room deep rest env p.values.knows x y (subst (λ z. NeedsAct w z rest env p.values.knows) is b.needs));
+          needs = subst (λ z. Needs w rest z p.values.knows) (sym env_is) (needs_bind w room deep first rest env p.values.knows x y (subst (λ z. NeedsAct w z rest env p.values.knows) is b.needs));
         }
 
-    pub leaves_bind : (q : Pass) (e : Ended Kept) → Leaves w deep t rest inner par p q e → LeavesAct w room deep t a rest env par p q e
+    pub leaves_bind : (q : Pass) (e : Ended Kept) → Leaves w deep first t rest inner par p q e → LeavesAct w room deep first t a rest env par p q e
     leaves_bind q e l =
         record {
           made = l.made;
@@ -121,7 +149,7 @@ module _ (w : Setting Handle) (funcs : List Func) (room : ℕ) (deep : Tracing H
           all = l.all;
           room = l.room;
           full = l.full;
-          tells = subst (λ z. TellsAct w room deep z rest env p.values.knows q.values.knows (bared e)) (sym is) (tells_bind w room deep rest env p.values.knows x y q.values.knows (bared e) (subst (λ z. Tells w deep rest z p.values.knows q.values.knows (bared e)) env_is l.tells));
+          tells = subst (λ z. TellsAct w room deep first z rest env p.values.knows q.values.knows (bared e)) (sym is) (tells_bind w room deep first rest env p.values.knows x y q.values.knows (bared e) (subst (λ z. Tells w deep first rest z p.values.knows q.values.knows (bared e)) env_is l.tells));
         }
 
   -- new
@@ -135,15 +163,18 @@ module _ (w : Setting Handle) (funcs : List Func) (room : ℕ) (deep : Tracing H
     claim_room : HasRoom p'
     claim_room = values_room t p p' b.of b.tidy b.fit be b.room o
 
-    pub leaves_unnamed : LeavesAct w room deep t a rest env par p p' (Other (A m E) None)
-    leaves_unnamed =
+    pub leaves_unnamed : a ≡ Make d → LeavesAct w room deep first t a rest env par p p' (Other (A m E) None)
+    leaves_unnamed is =
         record {
           made = one_made;
           moves = claim_moves;
-          all = most_same p' claim_room one_made (made_below par (A m E)) (each_cap (λ z. count z one_made ≡ count z (made_below par (A m E))) refl refl refl);
+          all = most_is p' claim_room one_made (made_below par (A m E)) refl;
           room = tt;
           full = tt;
-          tells = λ base st mid end more r g. tt;
+          tells = subst (λ z. TellsAct w room deep first z rest env p.values.knows p'.values.knows (Other (rec.A m rec.E) None)) (sym is) (λ base st mid end more r g. (
+            subst (CutOn same_handle (cuts room deep first (Make d)) rest env base (rec.A m rec.E)) (sym o) (at_new same_handle room deep first rest env base d m rec.E 0 (record { run = λ heap wi. none rest (bind d (ref m) env) heap })),
+            λ n x e. claimed_sees p.values.knows p'.values.knows m c l n x (r.sees n x e),
+          ));
         }
 
     module _ (inner : Env Handle) (is : a ≡ Make d) (env_is : inner ≡ bind d (ref m) env) where
@@ -156,31 +187,34 @@ module _ (w : Setting Handle) (funcs : List Func) (room : ℕ) (deep : Tracing H
             tidy = claim_moves.stays.tidy;
             fit = claim_moves.fit;
             parent = subst (λ z. ParentKept par z.knows) (sym be.marks) b.parent;
-            needs = subst (λ z. Needs w rest z p'.values.knows) (sym env_is) (needs_make w room deep rest env p.values.knows d m p'.values.knows c l (subst (λ z. NeedsAct w z rest env p.values.knows) is b.needs));
+            needs = subst (λ z. Needs w rest z p'.values.knows) (sym env_is) (needs_make w room deep first rest env p.values.knows d m p'.values.knows c l (subst (λ z. NeedsAct w z rest env p.values.knows) is b.needs));
           }
 
-      pub leaves_make : (q : Pass) (e f : Ended Kept) → Leaves w deep t rest inner par p' q e → Follows (then_ended (A m) e) f → LeavesAct w room deep t a rest env par p q f
+      pub leaves_make : (q : Pass) (e f : Ended Kept) → Leaves w deep first t rest inner par p' q e → Follows (then_ended (A m) e) f → LeavesAct w room deep first t a rest env par p q f
       leaves_make q e f k h =
           act_of q f (does_then (made_below par) (made_below par) (A m) t p p' q one_made e f (λ x. refl) claim_moves (record { made = k.made; moves = k.moves; all = k.all; room = k.room; full = k.full }) h)
-          (act_then w room deep a rest env p.values.knows q.values.knows (A m) (rec.A m) e f (λ x. refl) h
-          (subst (λ z. TellsAct w room deep z rest env p.values.knows q.values.knows (then_ended (rec.A m) (bared e))) (sym is) (tells_make w room deep rest env p.values.knows d m p'.values.knows c l q.values.knows (bared e) (subst (λ z. Tells w deep rest z p'.values.knows q.values.knows (bared e)) env_is k.tells))))
+          (act_then w room deep first short a rest env p.values.knows q (A m) (rec.A m) e f (λ x. refl) k.room h
+          (subst (λ z. TellsAct w room deep first z rest env p.values.knows q.values.knows (then_ended (rec.A m) (bared e))) (sym is) (tells_make w room deep first rest env p.values.knows d m p'.values.knows c l q.values.knows (bared e) (subst (λ z. Tells w deep first rest z p'.values.knows q.values.knows (bared e)) env_is k.tells))))
 
   -- a claim in vain
-  pub leaves_full : (p' : Pass) (at : Full) → BeginsAct w funcs t a rest env par p → BesideValues p p' → at.room ≡ length p.values.knows.claims.list → at.room ≤ at.index → p'.values.knows ≡ drew p.values.knows at.index → LeavesAct w room deep t a rest env par p p' (halted (A w.row_count E) (halt.Full cap.Mods at))
-  leaves_full p' at b be list past e =
+  pub leaves_full : (p' : Pass) (at : Full) (d : ℕ) → BeginsAct w funcs t a rest env par p → BesideValues p p' → at.room ≡ length p.values.knows.claims.list → at.room ≤ at.index → p'.values.knows ≡ drew p.values.knows at.index → a ≡ Make d → LeavesAct w room deep first t a rest env par p p' (halted E (halt.Full cap.Mods at))
+  leaves_full p' at d b be list past e is =
       let v = p.values.knows in
       let h : length v.claims.list ≤ at.index = subst (λ z. z ≤ at.index) list past in
-      let o : p'.values.knows.claims.over ≡ v.claims.over + 1 = ap (λ (z : ValueView). z.claims.over) e ∙ over_past v.claims at.index h in
+      let o : p'.values.knows.claims.over ≡ 1 = ap (λ (z : ValueView). z.claims.over) e ∙ over_past v.claims at.index h ∙ ap (λ n. n + 1) b.room.0 in
       let readers_is = ap (λ z. z.knows.claims.over) be.readers ∙ b.room.1 in
       let marks_is = ap (λ z. z.knows.claims.over) be.marks ∙ b.room.2 in
-      let r = b.room.0 in
+      let why : Cause = record { which = cap.Mods; index = at.index; room = at.room } in
       record {
         made = nothing;
         moves = moves_vain t p p' b.of b.tidy b.fit be at.index h e;
-        all = each_cap (λ c. count c nothing + (claims_in c p').over ≤ count c (made_below par (A w.row_count E))) (omega (arith, marks_is)) (omega (arith, o, r)) (omega (arith, readers_is));
+        all = (refl, (omega (arith, marks_is), omega (arith, readers_is)));
         room = tt;
         full = record { list = list; past = past; drew = subst (λ (z : ValueView). times at.index v.claims.drawn < times at.index z.claims.drawn) (sym e) (drawn_more v.claims at.index) };
-        tells = λ base st mid end more z g. tt;
+        tells = subst (λ z. TellsAct w room deep first z rest env v p'.values.knows (Other rec.E (Some why))) (sym is) (λ base st mid end more r g. (
+          subst (CutOn same_handle (cuts room deep first (Make d)) rest env base rec.E) (sym o) (vain_new same_handle room deep first rest env base d),
+          λ m x i. sees_same v p'.values.knows (vain_mine v p'.values.knows at.index h e) (ap (λ (z : ValueView). z.known) e) m x (r.sees m x i),
+        ));
       }
 
   -- write
@@ -192,7 +226,7 @@ module _ (w : Setting Handle) (funcs : List Func) (room : ℕ) (deep : Tracing H
     put_needs = subst (λ z. NeedsAct w z rest env p.values.knows) is b.needs
 
     pub put_mine : Has p.values.knows m
-    put_mine = may_write w room deep rest env p.values.knows m x (three_of ws) three b.tidy put_needs
+    put_mine = may_write w room deep first rest env p.values.knows m x (three_of ws) three b.tidy put_needs
 
     module _ (p' : Pass) (be : BesideValues p p') (wr : p'.values.knows ≡ wrote m.slot (three_of ws) p.values.knows) where
       put_moves : Moves t p p' nothing
@@ -207,19 +241,19 @@ module _ (w : Setting Handle) (funcs : List Func) (room : ℕ) (deep : Tracing H
             tidy = put_moves.stays.tidy;
             fit = put_moves.fit;
             parent = subst (λ z. ParentKept par z.knows) (sym be.marks) b.parent;
-            needs = subst (Needs w rest env) (sym wr) (needs_put w room deep rest env p.values.knows m x (three_of ws) three b.tidy put_needs);
+            needs = subst (Needs w rest env) (sym wr) (needs_put w room deep first rest env p.values.knows m x (three_of ws) three b.tidy put_needs);
           }
 
-      pub leaves_put : (q : Pass) (e f : Ended Kept) → Leaves w deep t rest env par p' q e → Follows (then_ended (W m x) e) f → LeavesAct w room deep t a rest env par p q f
+      pub leaves_put : (q : Pass) (e f : Ended Kept) → Leaves w deep first t rest env par p' q e → Follows (then_ended (W m x) e) f → LeavesAct w room deep first t a rest env par p q f
       leaves_put q e f k h =
           act_of q f (does_then (made_below par) (made_below par) (W m x) t p p' q nothing e f (λ z. refl) put_moves (record { made = k.made; moves = k.moves; all = k.all; room = k.room; full = k.full }) h)
-          (act_then w room deep a rest env p.values.knows q.values.knows (W m x) (rec.W m (plain_value x)) e f (λ z. refl) h
-          (subst (λ z. TellsAct w room deep z rest env p.values.knows q.values.knows (then_ended (rec.W m (plain_value x)) (bared e))) (sym is)
-          (tells_put w room deep rest env p.values.knows m x (three_of ws) three b.tidy q.values.knows (bared e) put_mine (subst (λ z. Stays z q.values.knows) wr k.moves.stays) (subst (λ z. Tells w deep rest env z q.values.knows (bared e)) wr k.tells))))
+          (act_then w room deep first short a rest env p.values.knows q (W m x) (rec.W m (plain_value x)) e f (λ z. refl) k.room h
+          (subst (λ z. TellsAct w room deep first z rest env p.values.knows q.values.knows (then_ended (rec.W m (plain_value x)) (bared e))) (sym is)
+          (tells_put w room deep first rest env p.values.knows m x (three_of ws) three b.tidy q.values.knows (bared e) put_mine (subst (λ z. Stays z q.values.knows) wr k.moves.stays) (subst (λ z. Tells w deep first rest env z q.values.knows (bared e)) wr k.tells))))
 
 -- behind an inner part, whose statement has this node
-module _ (w : Setting Handle) (funcs : List Func) (deep : Tracing Handle) (t : Tables) (rest : List Stmt) (env : Env Handle) (par : Option Handle) (node : Handle) (p u : Pass) where
-  pub does_after : (e : Ended Kept) (q : Pass) (o : Ended Kept) → Does (inside par node) t p u e → LeavesAfter w deep t node e rest env u q o → Does (made_below par) t p q o
+module _ (w : Setting Handle) (funcs : List Func) (deep : Tracing Handle) (first : Cuts Handle) (t : Tables) (rest : List Stmt) (env : Env Handle) (par : Option Handle) (node : Handle) (p u : Pass) where
+  pub does_after : (e : Ended Kept) (q : Pass) (o : Ended Kept) → Does (inside par node) t p u e → LeavesAfter w deep first t node e rest env u q o → Does (made_below par) t p q o
   does_after (Good k) q o d l =
       does_then (made_below (Some node)) (made_below par) (S node k) t p u q d.made l.0 o
       (λ z. ap (λ m. followed m (made_below (Some node) z)) d.all ∙ step_made par node k z)
@@ -231,34 +265,34 @@ module _ (w : Setting Handle) (funcs : List Func) (deep : Tracing Handle) (t : T
   does_after (Other k None) q o d l =
       subst (Does (made_below par) t p q) (sym l.1)
       (subst (λ z. Does (made_below par) t p z (Other (S node k E) None)) (sym l.0)
-      (record { made = d.made; moves = d.moves; all = subst (AtMost u d.made) (step_end par node k) d.all; room = tt; full = tt }))
+      (record { made = d.made; moves = d.moves; all = subst (NoMore u d.made) (step_end par node k) d.all; room = tt; full = tt }))
   does_after (Other k (Some c)) q o d l =
       subst (Does (made_below par) t p q) (sym l.1)
       (subst (λ z. Does (made_below par) t p z (Other (S node k E) (Some c))) (sym l.0)
-      (record { made = d.made; moves = d.moves; all = subst (AtMost u d.made) (step_end par node k) d.all; room = tt; full = d.full }))
+      (record { made = d.made; moves = d.moves; all = subst (NoMore u d.made) (step_end par node k) d.all; room = tt; full = d.full }))
 
 -- if and call
-module _ (w : Setting Handle) (funcs : List Func) (room : ℕ) (deep : Tracing Handle) (t : Tables) (rest : List Stmt) (env : Env Handle) (par : Option Handle) (p : Pass) where
+module _ (w : Setting Handle) (funcs : List Func) (room : ℕ) (deep : Tracing Handle) (first : Cuts Handle) (none : StartsEmpty first) (short : Shortens deep first) (t : Tables) (rest : List Stmt) (env : Env Handle) (par : Option Handle) (p : Pass) where
   abbrev v : ValueView
   v = p.values.knows
 
   module _ (body : List Stmt) (inner : Env Handle) (b : BeginsAct w funcs t (Body body inner) rest env par p) where
-    pub leaves_no_inner : (q : Pass) (node : Handle) (h : Halt) → HaltsFor t p q (nodes_only ((node, par) ∷ [])) h → LeavesAct w room deep t (Body body inner) rest env par p q (halted (S node E E) h)
+    pub leaves_no_inner : (q : Pass) (node : Handle) (h : Halt) → HaltsFor t p q (nodes_only ((node, par) ∷ [])) h → LeavesAct w room deep first t (Body body inner) rest env par p q (halted (S node E E) h)
     leaves_no_inner q node h x =
-        act_of w funcs room deep t (Body body inner) rest env par p q (halted (S node E E) h)
-        (does_want (made_below par) t p q (S node E E) (nodes_only ((node, par) ∷ [])) h (each_cap (λ c. count c (nodes_only ((node, par) ∷ [])) ≡ count c (made_below par (S node E E))) refl refl refl) x)
-        (halt_tells_act w room deep (Body body inner) rest env v q.values.knows t p q (nodes_only ((node, par) ∷ [])) (S node E E) h x)
+        act_of w funcs room deep first none short t (Body body inner) rest env par p q (halted (S node E E) h)
+        (does_want (made_below par) t p q (S node E E) (nodes_only ((node, par) ∷ [])) h refl refl refl x)
+        (halt_tells_act w room deep first (Body body inner) rest env t p q (nodes_only ((node, par) ∷ [])) (S node E E) h b.room (λ base. at_body same_handle room deep first rest env base body inner rec.E 0 (record { run = λ heap wi. none body inner heap })) x)
 
     module _ (node : Handle) (p1 : Pass) (op : Opens t p p1 (nodes_only ((node, par) ∷ []))) (kn : Keeps p1.marks.knows node) where
       pub begins_inner : Begins w funcs t body inner (Some node) p1
-      begins_inner = record { of = op.moves.of; checked = b.checked; room = op.room; tidy = op.moves.stays.tidy; fit = op.moves.fit; parent = kn; needs = subst (Needs w body inner) (sym op.same) (needs_body w room deep rest env v body inner b.needs) }
+      begins_inner = record { of = op.moves.of; checked = b.checked; room = op.room; tidy = op.moves.stays.tidy; fit = op.moves.fit; parent = kn; needs = subst (Needs w body inner) (sym op.same) (needs_body w room deep first rest env v body inner b.needs) }
 
-      module _ (u : Pass) (e : Ended Kept) (l : Leaves w deep t body inner (Some node) p1 u e) where
+      module _ (u : Pass) (e : Ended Kept) (l : Leaves w deep first t body inner (Some node) p1 u e) where
         inner_kept : Stays v u.values.knows
         inner_kept = kept_then v p1.values.knows u.values.knows op.moves.stays l.moves.stays
 
-        inner_told : Tells w deep body inner v u.values.knows (bared e)
-        inner_told = subst (λ z. Tells w deep body inner z u.values.knows (bared e)) op.same l.tells
+        inner_told : Tells w deep first body inner v u.values.knows (bared e)
+        inner_told = subst (λ z. Tells w deep first body inner z u.values.knows (bared e)) op.same l.tells
 
         inner_does : Does (inside par node) t p u e
         inner_does =
@@ -273,7 +307,7 @@ module _ (w : Setting Handle) (funcs : List Func) (room : ℕ) (deep : Tracing H
         pub begins_after_inner : BeginsAfter w funcs t node e rest env u
         begins_after_inner = pick e l.room inner_told
           where
-            pick : (e : Ended Kept) → RoomAfter u e → Tells w deep body inner v u.values.knows (bared e) → BeginsAfter w funcs t node e rest env u
+            pick : (e : Ended Kept) → RoomAfter u e → Tells w deep first body inner v u.values.knows (bared e) → BeginsAfter w funcs t node e rest env u
             pick (Good k) r told =
                 record {
                   of = l.moves.of;
@@ -282,45 +316,68 @@ module _ (w : Setting Handle) (funcs : List Func) (room : ℕ) (deep : Tracing H
                   tidy = l.moves.stays.tidy;
                   fit = l.moves.fit;
                   parent = keeps_on p1.marks.knows u.marks.knows l.made.nodes l.moves.nodes node kn;
-                  needs = needs_body_on w room deep rest env v body inner u.values.knows (bare k) inner_kept b.needs told;
+                  needs = needs_body_on w room deep first rest env v body inner u.values.knows (bare k) inner_kept b.needs told;
                 }
             pick (Fault k c n) r told = tt
             pick (Other k why) r told = tt
 
-        pub leaves_inner : (q : Pass) (o : Ended Kept) → LeavesAfter w deep t node e rest env u q o → LeavesAct w room deep t (Body body inner) rest env par p q o
-        leaves_inner q o h = act_of w funcs room deep t (Body body inner) rest env par p q o (does_after w funcs deep t rest env par node p u e q o inner_does h) (pick e inner_told h)
+        pub leaves_inner : (q : Pass) (o : Ended Kept) → LeavesAfter w deep first t node e rest env u q o → LeavesAct w room deep first t (Body body inner) rest env par p q o
+        leaves_inner q o h = act_of w funcs room deep first none short t (Body body inner) rest env par p q o (does_after w funcs deep first t rest env par node p u e q o inner_does h) (pick e inner_told h)
           where
-            pick : (e : Ended Kept) → Tells w deep body inner v u.values.knows (bared e) → LeavesAfter w deep t node e rest env u q o → TellsAct w room deep (Body body inner) rest env v q.values.knows (bared o)
+            pick : (e : Ended Kept) → Tells w deep first body inner v u.values.knows (bared e) → LeavesAfter w deep first t node e rest env u q o → TellsAct w room deep first (Body body inner) rest env v q.values.knows (bared o)
             pick (Good k) told h =
-                act_then w room deep (Body body inner) rest env v q.values.knows (S node k) (rec.S (bare k)) h.0 o (λ z. refl) h.2
-                (tells_body_on w room deep rest env v body inner u.values.knows q.values.knows (bare k) (bared h.0) inner_kept h.1.moves.stays told h.1.tells)
+                act_then w room deep first short (Body body inner) rest env v q (S node k) (rec.S (bare k)) h.0 o (λ z. refl) h.1.room h.2
+                (tells_body_on w room deep first rest env v body inner u.values.knows q.values.knows (bare k) (bared h.0) inner_kept h.1.moves.stays told h.1.tells)
             pick (Fault k c n) told h =
-                subst (λ z. TellsAct w room deep (Body body inner) rest env v q.values.knows (bared z)) (sym h.1)
-                (subst (λ (z : Pass). TellsAct w room deep (Body body inner) rest env v z.values.knows (Fault (rec.S (bare k) rec.E) c n)) (sym h.0) (tells_body_stop w room deep rest env v body inner u.values.knows (bare k) c n told))
-            pick (Other k why) told h = subst (λ z. TellsAct w room deep (Body body inner) rest env v q.values.knows (bared z)) (sym h.1) (λ base st mid end more r g. tt)
+                subst (λ z. TellsAct w room deep first (Body body inner) rest env v q.values.knows (bared z)) (sym h.1)
+                (subst (λ (z : Pass). TellsAct w room deep first (Body body inner) rest env v z.values.knows (Fault (rec.S (bare k) rec.E) c n)) (sym h.0) (tells_body_stop w room deep first rest env v body inner u.values.knows (bare k) c n told))
+            pick (Other k why) told h =
+                subst (λ z. TellsAct w room deep first (Body body inner) rest env v q.values.knows (bared z)) (sym h.1)
+                (subst (λ (z : Pass). TellsAct w room deep first (Body body inner) rest env v z.values.knows (Other (rec.S (bare k) rec.E) why)) (sym h.0) (tells_body_cut w room deep first rest env v body inner u.values.knows (bare k) why told))
 
   -- read
   module _ (number level : ℕ) (reads : Reads Handle) (body : List Stmt) (inner : Env Handle) (b : BeginsAct w funcs t (Block number reads body inner) rest env par p) where
-    pub leaves_no_block : (q : Pass) (node : Handle) (r : Reading) (h : Halt) → HaltsFor t p q (read_made par node r) h → LeavesAct w room deep t (Block number reads body inner) rest env par p q (halted (S node (R r E) E) h)
-    leaves_no_block q node r h x =
-        act_of w funcs room deep t (Block number reads body inner) rest env par p q (halted (S node (R r E) E) h)
-        (does_want (made_below par) t p q (S node (R r E) E) (read_made par node r) h (λ c. refl) x)
-        (halt_tells_act w room deep (Block number reads body inner) rest env v q.values.knows t p q (read_made par node r) (S node (R r E) E) h x)
+    module _ (r : Reading) (began : Began level number env reads r) (room_is : levels - level ≡ room) where
+      bare_is : (k : Kept) → bare (R r k) ≡ rec.R room number env reads (bare k)
+      bare_is k =
+          ap (λ z. rec.R (levels - z) r.block (env_of r.env) (reads_of r.reads) (bare k)) began.level
+          ∙ ap (λ z. rec.R z r.block (env_of r.env) (reads_of r.reads) (bare k)) room_is
+          ∙ ap (λ z. rec.R room z (env_of r.env) (reads_of r.reads) (bare k)) began.block
+          ∙ ap (λ z. rec.R room number z (reads_of r.reads) (bare k)) began.env
+          ∙ ap (λ z. rec.R room number env z (bare k)) began.reads
+
+      begun_block : (base : Heap) → CutOn same_handle (cuts room deep first (Block number reads body inner)) rest env base (rec.S (bare (R r E)) rec.E) 0
+      begun_block base = subst (λ x. CutOn same_handle (cuts room deep first (Block number reads body inner)) rest env base (rec.S x rec.E) 0) (sym (bare_is E))
+          (at_block same_handle room deep first rest env base number reads body inner reads [] rec.E 0 (append-nil reads) (record { run = λ heap wi. none body inner heap }))
+
+      pub leaves_no_block : (q : Pass) (node : Handle) (h : Halt) → HaltsFor t p q (read_made par node r) h → LeavesAct w room deep first t (Block number reads body inner) rest env par p q (halted (S node (R r E) E) h)
+      leaves_no_block q node h x =
+          act_of w funcs room deep first none short t (Block number reads body inner) rest env par p q (halted (S node (R r E) E) h)
+          (does_want (made_below par) t p q (S node (R r E) E) (read_made par node r) h refl refl refl x)
+          (halt_tells_act w room deep first (Block number reads body inner) rest env t p q (read_made par node r) (S node (R r E) E) h b.room begun_block x)
+
+      -- want of memory for the environment of the block
+      pub leaves_unentered : (node : Handle) (p1 : Pass) → Opens t p p1 (read_made par node r) → LeavesAct w room deep first t (Block number reads body inner) rest env par p p1 (Other (S node (R r E) E) None)
+      leaves_unentered node p1 op =
+          record {
+            made = read_made par node r;
+            moves = op.moves;
+            all = most_is p1 op.room (read_made par node r) (read_made par node r) refl;
+            room = tt;
+            full = tt;
+            tells = begun_tells w room deep first (Block number reads body inner) rest env v p1.values.knows (rec.S (bare (R r E)) rec.E) None b.room.0 op.same begun_block;
+          }
 
     module _ (node : Handle) (r : Reading) (p1 : Pass) (op : Opens t p p1 (read_made par node r)) (kn : Keeps p1.marks.knows node) (kr : Keeps p1.marks.knows r.node) where
-      -- want of memory for the environment of the block
-      pub leaves_unentered : LeavesAct w room deep t (Block number reads body inner) rest env par p p1 (Other (S node (R r E) E) None)
-      leaves_unentered = record { made = read_made par node r; moves = op.moves; all = most_same p1 op.room (read_made par node r) (read_made par node r) (λ c. refl); room = tt; full = tt; tells = λ base st mid end more z g. tt }
-
       pub begins_block : Begins w funcs t body inner (Some r.node) p1
-      begins_block = record { of = op.moves.of; checked = b.checked; room = op.room; tidy = op.moves.stays.tidy; fit = op.moves.fit; parent = kr; needs = subst (Needs w body inner) (sym op.same) (needs_block w room deep rest env v number reads body inner b.needs) }
+      begins_block = record { of = op.moves.of; checked = b.checked; room = op.room; tidy = op.moves.stays.tidy; fit = op.moves.fit; parent = kr; needs = subst (Needs w body inner) (sym op.same) (needs_block w room deep first rest env v number reads body inner b.needs) }
 
-      module _ (u : Pass) (e f : Ended Kept) (fo : Follows (then_ended (R r) e) f) (l : Leaves w deep t body inner (Some r.node) p1 u e) where
+      module _ (u : Pass) (e f : Ended Kept) (fo : Follows (then_ended (R r) e) f) (l : Leaves w deep first t body inner (Some r.node) p1 u e) where
         block_kept : Stays v u.values.knows
         block_kept = kept_then v p1.values.knows u.values.knows op.moves.stays l.moves.stays
 
-        block_told : Tells w deep body inner v u.values.knows (bared e)
-        block_told = subst (λ z. Tells w deep body inner z u.values.knows (bared e)) op.same l.tells
+        block_told : Tells w deep first body inner v u.values.knows (bared e)
+        block_told = subst (λ z. Tells w deep first body inner z u.values.knows (bared e)) op.same l.tells
 
         block_does : Does (inside par node) t p u f
         block_does = does_then (made_below (Some r.node)) (inside par node) (R r) t p p1 u (read_made par node r) e f (block_made par node r) op.moves (record { made = l.made; moves = l.moves; all = l.all; room = l.room; full = l.full }) fo
@@ -328,7 +385,7 @@ module _ (w : Setting Handle) (funcs : List Func) (room : ℕ) (deep : Tracing H
         pub begins_after_block : BeginsAfter w funcs t node f rest env u
         begins_after_block = pick e f fo l.room block_told
           where
-            pick : (e f : Ended Kept) → Follows (then_ended (R r) e) f → RoomAfter u e → Tells w deep body inner v u.values.knows (bared e) → BeginsAfter w funcs t node f rest env u
+            pick : (e f : Ended Kept) → Follows (then_ended (R r) e) f → RoomAfter u e → Tells w deep first body inner v u.values.knows (bared e) → BeginsAfter w funcs t node f rest env u
             pick (Good k) (Good c) fo ro told =
                 record {
                   of = l.moves.of;
@@ -337,7 +394,7 @@ module _ (w : Setting Handle) (funcs : List Func) (room : ℕ) (deep : Tracing H
                   tidy = l.moves.stays.tidy;
                   fit = l.moves.fit;
                   parent = keeps_on p1.marks.knows u.marks.knows l.made.nodes l.moves.nodes node kn;
-                  needs = needs_block_on w room deep rest env v number reads body inner u.values.knows (bare k) block_kept b.needs told;
+                  needs = needs_block_on w room deep first rest env v number reads body inner u.values.knows (bare k) block_kept b.needs told;
                 }
             pick (Fault k i n) (Good c) fo ro told = absurd cc
             pick (Other k why) (Good c) fo ro told = absurd cc
@@ -345,52 +402,57 @@ module _ (w : Setting Handle) (funcs : List Func) (room : ℕ) (deep : Tracing H
             pick e (Other c why) fo ro told = tt
 
         module _ (began : Began level number env reads r) (room_is : levels - level ≡ room) where
-          bare_is : (k : Kept) → bare (R r k) ≡ rec.R room number env reads (bare k)
-          bare_is k =
-              ap (λ z. rec.R (levels - z) r.block (env_of r.env) (reads_of r.reads) (bare k)) began.level
-              ∙ ap (λ z. rec.R z r.block (env_of r.env) (reads_of r.reads) (bare k)) room_is
-              ∙ ap (λ z. rec.R room z (env_of r.env) (reads_of r.reads) (bare k)) began.block
-              ∙ ap (λ z. rec.R room number z (reads_of r.reads) (bare k)) began.env
-              ∙ ap (λ z. rec.R room number env z (bare k)) began.reads
+          bare_here : (k : Kept) → bare (R r k) ≡ rec.R room number env reads (bare k)
+          bare_here k = bare_is r began room_is k
 
-          block_tells : (q : Pass) (o : Ended Kept) (e : Ended Kept) → Tells w deep body inner v u.values.knows (bared e) → LeavesAfter w deep t node (then_ended (R r) e) rest env u q o → TellsAct w room deep (Block number reads body inner) rest env v q.values.knows (bared o)
+          block_tells : (q : Pass) (o : Ended Kept) (e : Ended Kept) → Tells w deep first body inner v u.values.knows (bared e) → LeavesAfter w deep first t node (then_ended (R r) e) rest env u q o → TellsAct w room deep first (Block number reads body inner) rest env v q.values.knows (bared o)
           block_tells q o (Good k) told h =
-              act_then w room deep (Block number reads body inner) rest env v q.values.knows (S node (R r k)) (rec.S (bare (R r k))) h.0 o (λ z. refl) h.2
-              (subst (λ x. TellsAct w room deep (Block number reads body inner) rest env v q.values.knows (then_ended (rec.S x) (bared h.0))) (sym (bare_is k))
-              (tells_block_on w room deep rest env v number reads body inner u.values.knows q.values.knows (bare k) (bared h.0) block_kept h.1.moves.stays told h.1.tells))
+              act_then w room deep first short (Block number reads body inner) rest env v q (S node (R r k)) (rec.S (bare (R r k))) h.0 o (λ z. refl) h.1.room h.2
+              (subst (λ x. TellsAct w room deep first (Block number reads body inner) rest env v q.values.knows (then_ended (rec.S x) (bared h.0))) (sym (bare_here k))
+              (tells_block_on w room deep first rest env v number reads body inner u.values.knows q.values.knows (bare k) (bared h.0) block_kept h.1.moves.stays told h.1.tells))
           block_tells q o (Fault k c n) told h =
-              subst (λ z. TellsAct w room deep (Block number reads body inner) rest env v q.values.knows (bared z)) (sym h.1)
-              (subst (λ (z : Pass). TellsAct w room deep (Block number reads body inner) rest env v z.values.knows (Fault (rec.S (bare (R r k)) rec.E) c n)) (sym h.0)
-              (subst (λ x. TellsAct w room deep (Block number reads body inner) rest env v u.values.knows (Fault (rec.S x rec.E) c n)) (sym (bare_is k))
-              (tells_block_stop w room deep rest env v number reads body inner u.values.knows (bare k) c n told)))
-          block_tells q o (Other k why) told h = subst (λ z. TellsAct w room deep (Block number reads body inner) rest env v q.values.knows (bared z)) (sym h.1) (λ base st mid end more z g. tt)
+              subst (λ z. TellsAct w room deep first (Block number reads body inner) rest env v q.values.knows (bared z)) (sym h.1)
+              (subst (λ (z : Pass). TellsAct w room deep first (Block number reads body inner) rest env v z.values.knows (Fault (rec.S (bare (R r k)) rec.E) c n)) (sym h.0)
+              (subst (λ x. TellsAct w room deep first (Block number reads body inner) rest env v u.values.knows (Fault (rec.S x rec.E) c n)) (sym (bare_here k))
+              (tells_block_stop w room deep first rest env v number reads body inner u.values.knows (bare k) c n told)))
+          block_tells q o (Other k why) told h =
+              subst (λ z. TellsAct w room deep first (Block number reads body inner) rest env v q.values.knows (bared z)) (sym h.1)
+              (subst (λ (z : Pass). TellsAct w room deep first (Block number reads body inner) rest env v z.values.knows (Other (rec.S (bare (R r k)) rec.E) why)) (sym h.0)
+              (subst (λ x. TellsAct w room deep first (Block number reads body inner) rest env v u.values.knows (Other (rec.S x rec.E) why)) (sym (bare_here k))
+              (tells_block_first w room deep first rest env v number reads body inner short u.values.knows (Other (bare k) why) (λ o. absurd cc) told why)))
 
-          after_tells : (q : Pass) (o : Ended Kept) (f : Ended Kept) → Follows (then_ended (R r) e) f → LeavesAfter w deep t node f rest env u q o → TellsAct w room deep (Block number reads body inner) rest env v q.values.knows (bared o)
-          after_tells q o (Good c) fo h = block_tells q o e block_told (subst (λ z. LeavesAfter w deep t node z rest env u q o) (sym fo) h)
-          after_tells q o (Fault c i n) fo h = block_tells q o e block_told (subst (λ z. LeavesAfter w deep t node z rest env u q o) (sym fo) h)
-          after_tells q o (Other c why) fo h = subst (λ z. TellsAct w room deep (Block number reads body inner) rest env v q.values.knows (bared z)) (sym h.1) (λ base st mid end more z g. tt)
+          after_tells : (q : Pass) (o : Ended Kept) (f : Ended Kept) → Follows (then_ended (R r) e) f → LeavesAfter w deep first t node f rest env u q o → TellsAct w room deep first (Block number reads body inner) rest env v q.values.knows (bared o)
+          after_tells q o (Good c) fo h = block_tells q o e block_told (subst (λ z. LeavesAfter w deep first t node z rest env u q o) (sym fo) h)
+          after_tells q o (Fault c i n) fo h = block_tells q o e block_told (subst (λ z. LeavesAfter w deep first t node z rest env u q o) (sym fo) h)
+          after_tells q o (Other c (Some why)) fo h = block_tells q o e block_told (subst (λ z. LeavesAfter w deep first t node z rest env u q o) (sym fo) h)
+          after_tells q o (Other c None) fo h =
+              let whole : TellsAct w room deep first (Block number reads body inner) rest env v u.values.knows (Other (rec.S (rec.R room number env reads (what (bared e))) rec.E) None) = tells_block_first w room deep first rest env v number reads body inner short u.values.knows (bared e) (whole_of u e l.room) block_told None in
+              let is : rec.R room number env reads (what (bared e)) ≡ bare c = ap (rec.R room number env reads) (what_bared e) ∙ sym (bare_here (what e)) ∙ ap bare (sym (what_then (R r) e) ∙ fo) in
+              subst (λ z. TellsAct w room deep first (Block number reads body inner) rest env v q.values.knows (bared z)) (sym h.1)
+              (subst (λ (z : Pass). TellsAct w room deep first (Block number reads body inner) rest env v z.values.knows (Other (rec.S (bare c) rec.E) None)) (sym h.0)
+              (subst (λ x. TellsAct w room deep first (Block number reads body inner) rest env v u.values.knows (Other (rec.S x rec.E) None)) is whole))
 
-          pub leaves_block : (q : Pass) (o : Ended Kept) → LeavesAfter w deep t node f rest env u q o → LeavesAct w room deep t (Block number reads body inner) rest env par p q o
-          leaves_block q o h = act_of w funcs room deep t (Block number reads body inner) rest env par p q o (does_after w funcs deep t rest env par node p u f q o block_does h) (after_tells q o f fo h)
+          pub leaves_block : (q : Pass) (o : Ended Kept) → LeavesAfter w deep first t node f rest env u q o → LeavesAct w room deep first t (Block number reads body inner) rest env par p q o
+          leaves_block q o h = act_of w funcs room deep first none short t (Block number reads body inner) rest env par p q o (does_after w funcs deep first t rest env par node p u f q o block_does h) (after_tells q o f fo h)
 
   -- par
   module _ (ls rs : List Stmt) (b : BeginsAct w funcs t (Sides ls rs) rest env par p) where
-    pub leaves_no_par : (q : Pass) (node : Handle) (h : Halt) → HaltsFor t p q (nodes_only ((node, par) ∷ [])) h → LeavesAct w room deep t (Sides ls rs) rest env par p q (halted (S node E E) h)
+    pub leaves_no_par : (q : Pass) (node : Handle) (h : Halt) → HaltsFor t p q (nodes_only ((node, par) ∷ [])) h → LeavesAct w room deep first t (Sides ls rs) rest env par p q (halted (S node E E) h)
     leaves_no_par q node h x =
-        act_of w funcs room deep t (Sides ls rs) rest env par p q (halted (S node E E) h)
-        (does_want (made_below par) t p q (S node E E) (nodes_only ((node, par) ∷ [])) h (each_cap (λ c. count c (nodes_only ((node, par) ∷ [])) ≡ count c (made_below par (S node E E))) refl refl refl) x)
-        (halt_tells_act w room deep (Sides ls rs) rest env v q.values.knows t p q (nodes_only ((node, par) ∷ [])) (S node E E) h x)
+        act_of w funcs room deep first none short t (Sides ls rs) rest env par p q (halted (S node E E) h)
+        (does_want (made_below par) t p q (S node E E) (nodes_only ((node, par) ∷ [])) h refl refl refl x)
+        (halt_tells_act w room deep first (Sides ls rs) rest env t p q (nodes_only ((node, par) ∷ [])) (S node E E) h b.room (λ base. bare_sides same_handle room deep first rest env base ls rs) x)
 
     module _ (node : Handle) (p1 : Pass) (op : Opens t p p1 (nodes_only ((node, par) ∷ []))) (kn : Keeps p1.marks.knows node) where
       pub begins_par : BeginsAct w funcs t (Sides ls rs) rest env (Some node) p1
       begins_par = record { of = op.moves.of; checked = b.checked; room = op.room; tidy = op.moves.stays.tidy; fit = op.moves.fit; parent = kn; sights = tt; needs = subst (NeedsAct w (Sides ls rs) rest env) (sym op.same) b.needs }
 
-      module _ (u : Pass) (e : Ended Kept) (l : LeavesBoth w deep t ls rs rest env (Some node) p1 u e) where
+      module _ (u : Pass) (e : Ended Kept) (l : LeavesBoth w room deep first t ls rs rest env (Some node) p1 u e) where
         par_kept : Stays v u.values.knows
         par_kept = kept_then v p1.values.knows u.values.knows op.moves.stays l.moves.stays
 
-        par_told : TellsBoth w deep ls rs rest env v u.values.knows (bared e)
-        par_told = subst (λ z. TellsBoth w deep ls rs rest env z u.values.knows (bared e)) op.same l.tells
+        par_told : TellsBoth w room deep first ls rs rest env v u.values.knows (bared e)
+        par_told = subst (λ z. TellsBoth w room deep first ls rs rest env z u.values.knows (bared e)) op.same l.tells
 
         par_does : Does (inside par node) t p u e
         par_does =
@@ -405,7 +467,7 @@ module _ (w : Setting Handle) (funcs : List Func) (room : ℕ) (deep : Tracing H
         pub begins_after_par : BeginsAfter w funcs t node e rest env u
         begins_after_par = pick e l.room par_told
           where
-            pick : (e : Ended Kept) → RoomAfter u e → TellsBoth w deep ls rs rest env v u.values.knows (bared e) → BeginsAfter w funcs t node e rest env u
+            pick : (e : Ended Kept) → RoomAfter u e → TellsBoth w room deep first ls rs rest env v u.values.knows (bared e) → BeginsAfter w funcs t node e rest env u
             pick (Good k) r told =
                 record {
                   of = l.moves.of;
@@ -414,38 +476,43 @@ module _ (w : Setting Handle) (funcs : List Func) (room : ℕ) (deep : Tracing H
                   tidy = l.moves.stays.tidy;
                   fit = l.moves.fit;
                   parent = keeps_on p1.marks.knows u.marks.knows l.made.nodes l.moves.nodes node kn;
-                  needs = needs_par_on w room deep rest env v ls rs u.values.knows (bare k) par_kept b.needs told;
+                  needs = needs_par_on w room deep first rest env v ls rs u.values.knows (bare k) par_kept b.needs told;
                 }
             pick (Fault k c n) r told = tt
             pick (Other k why) r told = tt
 
-        pub leaves_par : (q : Pass) (o : Ended Kept) → LeavesAfter w deep t node e rest env u q o → LeavesAct w room deep t (Sides ls rs) rest env par p q o
-        leaves_par q o h = act_of w funcs room deep t (Sides ls rs) rest env par p q o (does_after w funcs deep t rest env par node p u e q o par_does h) (pick e par_told h)
+        pub leaves_par : (q : Pass) (o : Ended Kept) → LeavesAfter w deep first t node e rest env u q o → LeavesAct w room deep first t (Sides ls rs) rest env par p q o
+        leaves_par q o h = act_of w funcs room deep first none short t (Sides ls rs) rest env par p q o (does_after w funcs deep first t rest env par node p u e q o par_does h) (pick e par_told h)
           where
-            pick : (e : Ended Kept) → TellsBoth w deep ls rs rest env v u.values.knows (bared e) → LeavesAfter w deep t node e rest env u q o → TellsAct w room deep (Sides ls rs) rest env v q.values.knows (bared o)
+            pick : (e : Ended Kept) → TellsBoth w room deep first ls rs rest env v u.values.knows (bared e) → LeavesAfter w deep first t node e rest env u q o → TellsAct w room deep first (Sides ls rs) rest env v q.values.knows (bared o)
             pick (Good k) told h =
-                act_then w room deep (Sides ls rs) rest env v q.values.knows (S node k) (rec.S (bare k)) h.0 o (λ z. refl) h.2
-                (tells_par_on w room deep rest env v ls rs u.values.knows q.values.knows (bare k) (bared h.0) par_kept h.1.moves.stays told h.1.tells)
+                act_then w room deep first short (Sides ls rs) rest env v q (S node k) (rec.S (bare k)) h.0 o (λ z. refl) h.1.room h.2
+                (tells_par_on w room deep first rest env v ls rs u.values.knows q.values.knows (bare k) (bared h.0) par_kept h.1.moves.stays told h.1.tells)
             pick (Fault k c n) told h =
-                subst (λ z. TellsAct w room deep (Sides ls rs) rest env v q.values.knows (bared z)) (sym h.1)
-                (subst (λ (z : Pass). TellsAct w room deep (Sides ls rs) rest env v z.values.knows (Fault (rec.S (bare k) rec.E) c n)) (sym h.0) (tells_par_stop w room deep rest env v ls rs u.values.knows (bare k) c n told))
-            pick (Other k why) told h = subst (λ z. TellsAct w room deep (Sides ls rs) rest env v q.values.knows (bared z)) (sym h.1) (λ base st mid end more r g. tt)
+                subst (λ z. TellsAct w room deep first (Sides ls rs) rest env v q.values.knows (bared z)) (sym h.1)
+                (subst (λ (z : Pass). TellsAct w room deep first (Sides ls rs) rest env v z.values.knows (Fault (rec.S (bare k) rec.E) c n)) (sym h.0) (tells_par_stop w room deep first rest env v ls rs u.values.knows (bare k) c n told))
+            pick (Other k why) told h =
+                subst (λ z. TellsAct w room deep first (Sides ls rs) rest env v q.values.knows (bared z)) (sym h.1)
+                (subst (λ (z : Pass). TellsAct w room deep first (Sides ls rs) rest env v z.values.knows (Other (rec.S (bare k) rec.E) why)) (sym h.0) (tells_par_cut w room deep first rest env v ls rs u.values.knows (bare k) why told))
 
 -- both sides
-module _ (w : Setting Handle) (funcs : List Func) (room : ℕ) (deep : Tracing Handle) (t : Tables) (ls rs rest : List Stmt) (env : Env Handle) (par : Option Handle) (p : Pass) (b : BeginsAct w funcs t (Sides ls rs) rest env par p) where
-  both_of : (q : Pass) (e : Ended Kept) → Does (made_below par) t p q e → TellsBoth w deep ls rs rest env p.values.knows q.values.knows (bared e) → LeavesBoth w deep t ls rs rest env par p q e
+module _ (w : Setting Handle) (funcs : List Func) (room : ℕ) (deep : Tracing Handle) (first : Cuts Handle) (none : StartsEmpty first) (short : Shortens deep first) (t : Tables) (ls rs rest : List Stmt) (env : Env Handle) (par : Option Handle) (p : Pass) (b : BeginsAct w funcs t (Sides ls rs) rest env par p) where
+  both_of : (q : Pass) (e : Ended Kept) → Does (made_below par) t p q e → TellsBoth w room deep first ls rs rest env p.values.knows q.values.knows (bared e) → LeavesBoth w room deep first t ls rs rest env par p q e
   both_of q e d h = record { made = d.made; moves = d.moves; all = d.all; room = d.room; full = d.full; tells = h }
 
-  pub leaves_no_sides : (q : Pass) (node : Handle) (h : Halt) → HaltsFor t p q (nodes_only ((node, par) ∷ [])) h → LeavesBoth w deep t ls rs rest env par p q (halted (P node E E) h)
+  pub leaves_no_sides : (q : Pass) (node : Handle) (h : Halt) → HaltsFor t p q (nodes_only ((node, par) ∷ [])) h → LeavesBoth w room deep first t ls rs rest env par p q (halted (P node E E) h)
   leaves_no_sides q node h x =
       both_of q (halted (P node E E) h)
-      (does_want (made_below par) t p q (P node E E) (nodes_only ((node, par) ∷ [])) h (each_cap (λ c. count c (nodes_only ((node, par) ∷ [])) ≡ count c (made_below par (P node E E))) refl refl refl) x)
+      (does_want (made_below par) t p q (P node E E) (nodes_only ((node, par) ∷ [])) h refl refl refl x)
       (halt_tells h x)
     where
-      halt_tells : (h : Halt) → HaltsFor t p q (nodes_only ((node, par) ∷ [])) h → TellsBoth w deep ls rs rest env p.values.knows q.values.knows (bared (halted (P node E E) h))
+      begun : (why : Option Cause) → q.values.knows ≡ p.values.knows → TellsBoth w room deep first ls rs rest env p.values.knows q.values.knows (Other (rec.P rec.E rec.E) why)
+      begun why e = both_begun w room deep first rest env p.values.knows ls rs none q.values.knows (ap (λ (z : ValueView). z.claims.over) e ∙ b.room.0) (λ m x s. subst (λ z. Sees z m x) (sym e) s) why
+
+      halt_tells : (h : Halt) → HaltsFor t p q (nodes_only ((node, par) ∷ [])) h → TellsBoth w room deep first ls rs rest env p.values.knows q.values.knows (bared (halted (P node E E) h))
       halt_tells (halt.Fault _ _) x = absurd x
-      halt_tells (halt.Full _ _) x = λ base st mid end more r g. tt
-      halt_tells halt.NoMemory x = λ base st mid end more r g. tt
+      halt_tells (halt.Full which at) x = begun (Some (record { which = which; index = at.index; room = at.room })) x.same
+      halt_tells halt.NoMemory x = begun None x.same
 
   module _ (node : Handle) (p1 : Pass) (op : Opens t p p1 (nodes_only ((node, par) ∷ []))) (kn : Keeps p1.marks.knows node) where
     abbrev one_node : Made
@@ -458,46 +525,46 @@ module _ (w : Setting Handle) (funcs : List Func) (room : ℕ) (deep : Tracing H
     tidy_here = op.moves.stays.tidy
 
     -- both sides, that were begun behind the node
-    whole : (j : Pass) (made : Made) (one two o : Ended Kept) → Moves t p1 j made → AllMade (made_below par) j (followed one_node made) (both_ended (P node) one two) → RoomAfter j (both_ended (P node) one two) → FullBy p1 j (both_ended (P node) one two) → TellsBoth w deep ls rs rest env p1.values.knows j.values.knows (both_ended rec.P (bared one) (bared two)) → Follows (both_ended (P node) one two) o → LeavesBoth w deep t ls rs rest env par p j o
+    whole : (j : Pass) (made : Made) (one two o : Ended Kept) → Moves t p1 j made → AllMade (made_below par) j (followed one_node made) (both_ended (P node) one two) → RoomAfter j (both_ended (P node) one two) → FullBy p1 j (both_ended (P node) one two) → TellsBoth w room deep first ls rs rest env p1.values.knows j.values.knows (both_ended rec.P (bared one) (bared two)) → Follows (both_ended (P node) one two) o → LeavesBoth w room deep first t ls rs rest env par p j o
     whole j made one two o mv all ro fu tells fo =
         let e = both_ended (P node) one two in
-        let told : TellsBoth w deep ls rs rest env p1.values.knows j.values.knows (bared e) = subst (TellsBoth w deep ls rs rest env p1.values.knows j.values.knows) (sym (bared_both node one two)) tells in
+        let told : TellsBoth w room deep first ls rs rest env p1.values.knows j.values.knows (bared e) = subst (TellsBoth w room deep first ls rs rest env p1.values.knows j.values.knows) (sym (bared_both node one two)) tells in
         record {
           made = followed one_node made;
           moves = moves_then t p p1 j one_node made op.moves mv;
           all = all_follows (made_below par) j (followed one_node made) e o fo ro all;
           room = room_follows j e o fo ro;
           full = full_follows p j e o fo (full_before t p p1 j one_node e op.moves fu);
-          tells = subst (λ z. TellsBoth w deep ls rs rest env z j.values.knows (bared o)) op.same (both_follows w room deep rest env p1.values.knows ls rs j.values.knows (bared e) (bared o) (follows_bared e o fo) told);
+          tells = subst (λ z. TellsBoth w room deep first ls rs rest env z j.values.knows (bared o)) op.same (both_follows w room deep first rest env p1.values.knows ls rs short j.values.knows (bared e) (bared o) (whole_of j e ro) (follows_bared e o fo) told);
         }
 
     -- on one pass
     pub begins_first : Begins w funcs t ls env (Some node) p1
-    begins_first = record { of = op.moves.of; checked = b.checked; room = op.room; tidy = tidy_here; fit = op.moves.fit; parent = kn; needs = needs_first w room deep rest env p1.values.knows ls rs needs_here }
+    begins_first = record { of = op.moves.of; checked = b.checked; room = op.room; tidy = tidy_here; fit = op.moves.fit; parent = kn; needs = needs_first w room deep first rest env p1.values.knows ls rs needs_here }
 
-    pub leaves_out : (u : Pass) (k : Kept) (r : Result Record Halt) → is_other (ended_of k r) ≡ true → Leaves w deep t ls env (Some node) p1 u (ended_of k r) → LeavesBoth w deep t ls rs rest env par p u (ended_of (P node k E) r)
+    pub leaves_out : (u : Pass) (k : Kept) (r : Result Record Halt) → is_other (ended_of k r) ≡ true → Leaves w deep first t ls env (Some node) p1 u (ended_of k r) → LeavesBoth w room deep first t ls rs rest env par p u (ended_of (P node k E) r)
     leaves_out u k (Ok r) h l = absurd cc
     leaves_out u k (Err (halt.Fault _ _)) h l = absurd cc
     leaves_out u k (Err (halt.Full which at)) h l =
         record {
           made = followed one_node l.made;
           moves = moves_then t p p1 u one_node l.made op.moves l.moves;
-          all = subst (AtMost u (followed one_node l.made)) (side_made par node k) (most_front u one_node l.made (made_below (Some node) k) l.all);
+          all = subst (NoMore u (followed one_node l.made)) (side_made par node k) (most_front u one_node l.made (made_below (Some node) k) l.all);
           room = tt;
           full = full_then t p p1 u one_node (record { which = which; index = at.index; room = at.room }) op.moves l.full;
-          tells = λ base st mid end more r g. tt;
+          tells = subst (λ z. TellsBoth w room deep first ls rs rest env z u.values.knows (Other (rec.P (bare k) rec.E) (Some (record { which = which; index = at.index; room = at.room })))) op.same (tells_left_out w room deep first rest env p1.values.knows ls rs tidy_here u.values.knows l.moves.stays none (bare k) (Some (record { which = which; index = at.index; room = at.room })) l.tells);
         }
     leaves_out u k (Err halt.NoMemory) h l =
         record {
           made = followed one_node l.made;
           moves = moves_then t p p1 u one_node l.made op.moves l.moves;
-          all = subst (AtMost u (followed one_node l.made)) (side_made par node k) (most_front u one_node l.made (made_below (Some node) k) l.all);
+          all = subst (NoMore u (followed one_node l.made)) (side_made par node k) (most_front u one_node l.made (made_below (Some node) k) l.all);
           room = tt;
           full = tt;
-          tells = λ base st mid end more r g. tt;
+          tells = subst (λ z. TellsBoth w room deep first ls rs rest env z u.values.knows (Other (rec.P (bare k) rec.E) None)) op.same (tells_left_out w room deep first rest env p1.values.knows ls rs tidy_here u.values.knows l.moves.stays none (bare k) None l.tells);
         }
 
-    module _ (u : Pass) (one : Ended Kept) (h : is_other one ≡ false) (l : Leaves w deep t ls env (Some node) p1 u one) where
+    module _ (u : Pass) (one : Ended Kept) (h : is_other one ≡ false) (l : Leaves w deep first t ls env (Some node) p1 u one) where
       room_first : (e : Ended Kept) → is_other e ≡ false → RoomAfter u e → HasRoom u
       room_first (Good k) o r = r
       room_first (Fault k c d) o r = r
@@ -512,10 +579,10 @@ module _ (w : Setting Handle) (funcs : List Func) (room : ℕ) (deep : Tracing H
             tidy = l.moves.stays.tidy;
             fit = l.moves.fit;
             parent = keeps_on p1.marks.knows u.marks.knows l.made.nodes l.moves.nodes node kn;
-            needs = needs_second w room deep rest env p1.values.knows ls rs tidy_here u.values.knows l.moves.stays (bared one) (other_bared one ∙ h) needs_here l.tells;
+            needs = needs_second w room deep first rest env p1.values.knows ls rs tidy_here u.values.knows l.moves.stays (bared one) (other_bared one ∙ h) needs_here l.tells;
           }
 
-      pub leaves_second : (j : Pass) (two o : Ended Kept) → Leaves w deep t rs env (Some node) u j two → Follows (both_ended (P node) one two) o → LeavesBoth w deep t ls rs rest env par p j o
+      pub leaves_second : (j : Pass) (two o : Ended Kept) → Leaves w deep first t rs env (Some node) u j two → Follows (both_ended (P node) one two) o → LeavesBoth w room deep first t ls rs rest env par p j o
       leaves_second j two o m fo =
           let hr = room_first one h l.room in
           whole j (followed l.made m.made) one two o
@@ -523,7 +590,7 @@ module _ (w : Setting Handle) (funcs : List Func) (room : ℕ) (deep : Tracing H
           (all_both (made_below (Some node)) u j j l.made m.made (P node) (made_below par) one_node (sides_made par node) (λ c. omega arith) one two l.room m.room l.all m.all)
           (room_both j u j (P node) (λ x y. y) one two l.room m.room)
           (full_both p1 j p1 u u j (P node) (λ c f. full_more t p1 u j m.made c m.moves f) (λ c f. full_then t p1 u j l.made c l.moves f) one two l.full m.full)
-          (tells_second w room deep rest env p1.values.knows ls rs tidy_here u.values.knows l.moves.stays j.values.knows m.moves.stays (bared one) (bared two) (other_bared one ∙ h) l.tells m.tells)
+          (tells_second w room deep first rest env p1.values.knows ls rs tidy_here u.values.knows l.moves.stays j.values.knows m.moves.stays (bared one) (bared two) (other_bared one ∙ h) l.tells m.tells)
           fo
 
     -- on two
@@ -543,7 +610,7 @@ module _ (w : Setting Handle) (funcs : List Func) (room : ℕ) (deep : Tracing H
             tidy = subst Tidy (sym lv) (left_tidy (neither ls rs env) (writes_slot rs env) p1.values.knows tidy_here);
             fit = fit_left t p1 l k ls rs env op.moves.fit lv kv lr kr lm km;
             parent = parent_left t p1 l k ls rs env op.moves.fit lv kv lr kr lm km node kn;
-            needs = subst (Needs w ls env) (sym lv) (needs_left w room deep rest env p1.values.knows ls rs tidy_here needs_here);
+            needs = subst (Needs w ls env) (sym lv) (needs_left w room deep first rest env p1.values.knows ls rs tidy_here needs_here);
           }
 
       pub begins_right : Begins w funcs t rs env (Some node) k
@@ -555,17 +622,17 @@ module _ (w : Setting Handle) (funcs : List Func) (room : ℕ) (deep : Tracing H
             tidy = subst Tidy (sym kv) (right_tidy (neither ls rs env) (writes_slot rs env) p1.values.knows tidy_here);
             fit = fit_right t p1 l k ls rs env op.moves.fit lv kv lr kr lm km;
             parent = parent_right t p1 l k ls rs env op.moves.fit lv kv lr kr lm km node kn;
-            needs = subst (Needs w rs env) (sym kv) (needs_right w room deep rest env p1.values.knows ls rs tidy_here needs_here);
+            needs = subst (Needs w rs env) (sym kv) (needs_right w room deep first rest env p1.values.knows ls rs tidy_here needs_here);
           }
 
-      module _ (l' k' : Pass) (one two : Ended Kept) (ll : Leaves w deep t ls env (Some node) l l' one) (lk : Leaves w deep t rs env (Some node) k k' two) where
+      module _ (l' k' : Pass) (one two : Ended Kept) (ll : Leaves w deep first t ls env (Some node) l l' one) (lk : Leaves w deep first t rs env (Some node) k k' two) where
         pub join_of : IsOf l' t × IsOf k' t
         join_of = (ll.moves.of, lk.moves.of)
 
         pub join_sides : (c : List Bool) × (l'.values.knows.claims.branch ≡ c ++ false ∷ []) × (k'.values.knows.claims.branch ≡ c ++ true ∷ [])
         join_sides = (p1.values.knows.claims.branch, ll.moves.stays.branch ∙ ap (λ (z : ValueView). z.claims.branch) lv, lk.moves.stays.branch ∙ ap (λ (z : ValueView). z.claims.branch) kv)
 
-        pub leaves_joined : (j : Pass) → IsOf j t → j.values.knows ≡ joined l'.values.knows k'.values.knows → United l'.values.knows k'.values.knows j.values.knows → j.readers.knows ≡ readers.joined l'.readers.knows k'.readers.knows → j.marks.knows ≡ marks.joined l'.marks.knows k'.marks.knows → UnitedNodes l'.marks.knows k'.marks.knows j.marks.knows → (o : Ended Kept) → Follows (both_ended (P node) one two) o → LeavesBoth w deep t ls rs rest env par p j o
+        pub leaves_joined : (j : Pass) → IsOf j t → j.values.knows ≡ joined l'.values.knows k'.values.knows → United l'.values.knows k'.values.knows j.values.knows → j.readers.knows ≡ readers.joined l'.readers.knows k'.readers.knows → j.marks.knows ≡ marks.joined l'.marks.knows k'.marks.knows → UnitedNodes l'.marks.knows k'.marks.knows j.marks.knows → (o : Ended Kept) → Follows (both_ended (P node) one two) o → LeavesBoth w room deep first t ls rs rest env par p j o
         leaves_joined j ofj jv un jr jm unm o fo =
             let over = over_joined t p1 l k ls rs env op.moves.fit lv kv lr kr lm km l' k' j ll.made lk.made ll.moves lk.moves ofj tidy_here jv un jr jm unm in
             let kl = subst (λ z. Stays z l'.values.knows) lv ll.moves.stays in
@@ -575,15 +642,15 @@ module _ (w : Setting Handle) (funcs : List Func) (room : ℕ) (deep : Tracing H
             (all_both (made_below (Some node)) l' k' j ll.made lk.made (P node) (made_below par) one_node (sides_made par node) (λ c. let o = over c in omega (arith, o)) one two ll.room lk.room ll.all lk.all)
             (room_both j l' k' (P node) (λ x y. room_from j (λ c. over c ∙ ap (λ n. n + (claims_in c k').over) (room_over l' x c) ∙ ap (λ n. 0 + n) (room_over k' y c))) one two ll.room lk.room)
             (full_both p1 j l l' k k' (P node) (full_left t p1 l k ls rs env op.moves.fit lv kv lr kr lm km l' k' j ll.made lk.made ll.moves lk.moves ofj tidy_here jv un jr jm unm) (full_right t p1 l k ls rs env op.moves.fit lv kv lr kr lm km l' k' j ll.made lk.made ll.moves lk.moves ofj tidy_here jv un jr jm unm) one two ll.full lk.full)
-            (tells_forked w room deep rest env p1.values.knows ls rs tidy_here l'.values.knows k'.values.knows j.values.knows kl kk jv un (bared one) (bared two) (subst (λ z. Tells w deep ls env z l'.values.knows (bared one)) lv ll.tells) (subst (λ z. Tells w deep rs env z k'.values.knows (bared two)) kv lk.tells))
+            (tells_forked w room deep first rest env p1.values.knows ls rs tidy_here l'.values.knows k'.values.knows j.values.knows kl kk jv un short (bared one) (bared two) (whole_of l' one ll.room) (whole_of k' two lk.room) (subst (λ z. Tells w deep first ls env z l'.values.knows (bared one)) lv ll.tells) (subst (λ z. Tells w deep first rs env z k'.values.knows (bared two)) kv lk.tells))
             fo
 
 -- a body
 module _ (w : Setting Handle) (funcs : List Func) (t : Tables) (env : Env Handle) (par : Option Handle) (p : Pass) where
-  pub leaves_end : (room : ℕ) (body : List Stmt) (k : Kept) → length body < 1 → k ≡ E → Begins w funcs t body env par p → Leaves w (traced w funcs room) t body env par p p (Good k)
+  pub leaves_end : (room : ℕ) (body : List Stmt) (k : Kept) → length body < 1 → k ≡ E → Begins w funcs t body env par p → Leaves w (traced w funcs room) (cut_short w funcs room) t body env par p p (Good k)
   leaves_end room [] k h e b =
-      subst (λ z. Leaves w (traced w funcs room) t [] env par p p (Good z)) (sym e)
-      (record { made = nothing; moves = moves_none t p b.of b.tidy b.fit; all = refl; room = b.room; full = tt; tells = tells_end w funcs room env p.values.knows })
+      subst (λ z. Leaves w (traced w funcs room) (cut_short w funcs room) t [] env par p p (Good z)) (sym e)
+      (record { made = nothing; moves = moves_none t p b.of b.tidy b.fit; all = refl; room = b.room; full = tt; tells = tells_end w funcs room (cut_short w funcs room) env p.values.knows })
   leaves_end room (s ∷ rest) k h e b = absurd (omega arith)
 
   body_splits : (body : List Stmt) (s : Stmt) → 1 ≤ length body → s ≡ get_or body 0 s → s ∷ drop 1 body ≡ body
@@ -599,7 +666,7 @@ module _ (w : Setting Handle) (funcs : List Func) (t : Tables) (env : Env Handle
   pub whole_is : (body : List Stmt) (s : Stmt) → 1 ≤ length body → s ≡ get_or body 0 s → s ∷ take (length body - 1) (drop 1 body) ≡ body
   whole_is body s h e = ap (λ b. s ∷ b) (rest_is body) ∙ body_splits body s h e
 
-  pub leaves_deep : (room : ℕ) (body : List Stmt) (s : Stmt) (rest : List Stmt) (n : ℕ) → s ∷ rest ≡ body → room ≡ 0 → n ≡ line_of (out-Stmt s) → Begins w funcs t body env par p → Leaves w (traced w funcs room) t body env par p p (Fault E TooDeep n)
+  pub leaves_deep : (room : ℕ) (body : List Stmt) (s : Stmt) (rest : List Stmt) (n : ℕ) → s ∷ rest ≡ body → room ≡ 0 → n ≡ line_of (out-Stmt s) → Begins w funcs t body env par p → Leaves w (traced w funcs room) (cut_short w funcs room) t body env par p p (Fault E TooDeep n)
   leaves_deep room body s rest n is z l b =
       record {
         made = nothing;
@@ -607,9 +674,9 @@ module _ (w : Setting Handle) (funcs : List Func) (t : Tables) (env : Env Handle
         all = refl;
         room = b.room;
         full = tt;
-        tells = subst (λ k. Tells w (traced w funcs k) body env p.values.knows p.values.knows (Fault rec.E TooDeep n)) (sym z)
-            (subst (λ x. Tells w (traced w funcs 0) x env p.values.knows p.values.knows (Fault rec.E TooDeep n)) is
-            (subst (λ x. Tells w (traced w funcs 0) (s ∷ rest) env p.values.knows p.values.knows (Fault rec.E TooDeep x)) (sym l) (tells_deep w funcs s rest env p.values.knows)));
+        tells = subst (λ k. Tells w (traced w funcs k) (cut_short w funcs k) body env p.values.knows p.values.knows (Fault rec.E TooDeep n)) (sym z)
+            (subst (λ x. Tells w (traced w funcs 0) (cut_short w funcs 0) x env p.values.knows p.values.knows (Fault rec.E TooDeep n)) is
+            (subst (λ x. Tells w (traced w funcs 0) (cut_short w funcs 0) (s ∷ rest) env p.values.knows p.values.knows (Fault rec.E TooDeep x)) (sym l) (tells_deep w funcs (cut_short w funcs 0) s rest env p.values.knows)));
       }
 
   module _ (body : List Stmt) (s : Stmt) (rest : List Stmt) (is : s ∷ rest ≡ body) (b : Begins w funcs t body env par p) where
@@ -626,11 +693,18 @@ module _ (w : Setting Handle) (funcs : List Func) (t : Tables) (env : Env Handle
       asked_room : HasRoom p'
       asked_room = values_room t p p' b.of b.tidy b.fit be b.room (ap (λ (z : ValueView). z.claims.over) l.1 ∙ b.room.0)
 
-      leaves_wanting : (room : ℕ) → Leaves w (traced w funcs room) t body env par p p' (Other E None)
+      leaves_wanting : (room : ℕ) → Leaves w (traced w funcs room) (cut_short w funcs room) t body env par p p' (Other E None)
       leaves_wanting room =
-          record { made = nothing; moves = asked_moves; all = most_same p' asked_room nothing (made_below par E) (each_cap (λ c. count c nothing ≡ count c (made_below par E)) refl refl refl); room = tt; full = tt; tells = λ base st end m r. tt }
+          record {
+            made = nothing;
+            moves = asked_moves;
+            all = most_is p' asked_room nothing (made_below par E) refl;
+            room = tt;
+            full = tt;
+            tells = λ base st end m r. (subst (CutOn same_handle (cut_short w funcs room) body env base rec.E) (sym asked_room.0) (cut_on_none same_handle w funcs room body env base), λ n x e. sees_looked p.values.knows p'.values.knows n x l (r.sees n x e));
+          }
 
-      leaves_fault : (room : ℕ) (k : FaultKind) (n : ℕ) → 0 < room → n ≡ line_of (out-Stmt s) → ((heap : Heap) → Readable w env p.values.knows heap (out-Stmt s) → action_of (listed w) w funcs env heap (out-Stmt s) ≡ Err k) → Leaves w (traced w funcs room) t body env par p p' (Fault E k n)
+      leaves_fault : (room : ℕ) (k : FaultKind) (n : ℕ) → 0 < room → n ≡ line_of (out-Stmt s) → ((heap : Heap) → Readable w env p.values.knows heap (out-Stmt s) → action_of (listed w) w funcs env heap (out-Stmt s) ≡ Err k) → Leaves w (traced w funcs room) (cut_short w funcs room) t body env par p p' (Fault E k n)
       leaves_fault room k n h li asked =
           record {
             made = nothing;
@@ -638,14 +712,14 @@ module _ (w : Setting Handle) (funcs : List Func) (t : Tables) (env : Env Handle
             all = refl;
             room = asked_room;
             full = tt;
-            tells = subst (λ z. Tells w (traced w funcs z) body env p.values.knows p'.values.knows (Fault rec.E k n)) (suc_less room h)
-                (subst (λ x. Tells w (traced w funcs (suc (room - 1))) x env p.values.knows p'.values.knows (Fault rec.E k n)) is
-                (subst (λ x. Tells w (traced w funcs (suc (room - 1))) (s ∷ rest) env p.values.knows p'.values.knows (Fault rec.E k x)) (sym li) (tells_fault w funcs b.checked s rest env p.values.knows p'.values.knows l (room - 1) k asked)));
+            tells = subst (λ z. Tells w (traced w funcs z) (cut_short w funcs z) body env p.values.knows p'.values.knows (Fault rec.E k n)) (suc_less room h)
+                (subst (λ x. Tells w (traced w funcs (suc (room - 1))) (cut_short w funcs (suc (room - 1))) x env p.values.knows p'.values.knows (Fault rec.E k n)) is
+                (subst (λ x. Tells w (traced w funcs (suc (room - 1))) (cut_short w funcs (suc (room - 1))) (s ∷ rest) env p.values.knows p'.values.knows (Fault rec.E k x)) (sym li) (tells_fault w funcs b.checked s rest env p.values.knows p'.values.knows l (room - 1) k asked)));
           }
 
-      pub leaves_stop : (room : ℕ) (h : Stopped) (n : ℕ) (e : Ended Kept) → 0 < room → n ≡ line_of (out-Stmt s) → ((heap : Heap) → Readable w env p.values.knows heap (out-Stmt s) → Halts h (action_of (listed w) w funcs env heap (out-Stmt s))) → e ≡ stop_ended h n → Leaves w (traced w funcs room) t body env par p p' e
-      leaves_stop room (stop_kind.Fault k) n e h li asked is = subst (Leaves w (traced w funcs room) t body env par p p') (sym is) (leaves_fault room k n h li asked)
-      leaves_stop room stop_kind.NoMemory n e h li asked is = subst (Leaves w (traced w funcs room) t body env par p p') (sym is) (leaves_wanting room)
+      pub leaves_stop : (room : ℕ) (h : Stopped) (n : ℕ) (e : Ended Kept) → 0 < room → n ≡ line_of (out-Stmt s) → ((heap : Heap) → Readable w env p.values.knows heap (out-Stmt s) → Halts h (action_of (listed w) w funcs env heap (out-Stmt s))) → e ≡ stop_ended h n → Leaves w (traced w funcs room) (cut_short w funcs room) t body env par p p' e
+      leaves_stop room (stop_kind.Fault k) n e h li asked is = subst (Leaves w (traced w funcs room) (cut_short w funcs room) t body env par p p') (sym is) (leaves_fault room k n h li asked)
+      leaves_stop room stop_kind.NoMemory n e h li asked is = subst (Leaves w (traced w funcs room) (cut_short w funcs room) t body env par p p') (sym is) (leaves_wanting room)
 
       module _ (a : Action Handle) (asked : (heap : Heap) → Readable w env p.values.knows heap (out-Stmt s) → action_of (listed w) w funcs env heap (out-Stmt s) ≡ Ok a) where
         pub begins_act : BeginsAct w funcs t a rest env par p'
@@ -661,7 +735,7 @@ module _ (w : Setting Handle) (funcs : List Func) (t : Tables) (env : Env Handle
               needs = needs_act w funcs b.checked s rest env p.values.knows p'.values.knows l a asked whole_needs;
             }
 
-        pub leaves_act : (room : ℕ) (q : Pass) (e : Ended Kept) → 0 < room → LeavesAct w (room - 1) (traced w funcs (room - 1)) t a rest env par p' q e → Leaves w (traced w funcs room) t body env par p q e
+        pub leaves_act : (room : ℕ) (q : Pass) (e : Ended Kept) → 0 < room → LeavesAct w (room - 1) (traced w funcs (room - 1)) (cut_short w funcs (room - 1)) t a rest env par p' q e → Leaves w (traced w funcs room) (cut_short w funcs room) t body env par p q e
         leaves_act room q e h k =
             record {
               made = k.made;
@@ -669,18 +743,18 @@ module _ (w : Setting Handle) (funcs : List Func) (t : Tables) (env : Env Handle
               all = k.all;
               room = k.room;
               full = full_before t p p' q nothing e asked_moves k.full;
-              tells = subst (λ z. Tells w (traced w funcs z) body env p.values.knows q.values.knows (bared e)) (suc_less room h)
-                  (subst (λ x. Tells w (traced w funcs (suc (room - 1))) x env p.values.knows q.values.knows (bared e)) is
+              tells = subst (λ z. Tells w (traced w funcs z) (cut_short w funcs z) body env p.values.knows q.values.knows (bared e)) (suc_less room h)
+                  (subst (λ x. Tells w (traced w funcs (suc (room - 1))) (cut_short w funcs (suc (room - 1))) x env p.values.knows q.values.knows (bared e)) is
                   (tells_act w funcs b.checked s rest env p.values.knows p'.values.knows l a asked (room - 1) q.values.knows (bared e) k.tells));
             }
 
 -- the same, with what tells the pass in between first
-pub leaves_make_on : (w : Setting Handle) (funcs : List Func) (room : ℕ) (deep : Tracing Handle) (t : Tables) (a : Action Handle) (rest : List Stmt) (env : Env Handle) (par : Option Handle) (p p' q : Pass) (e f : Ended Kept) (d : ℕ) (m : Handle) (inner : Env Handle) → Leaves w deep t rest inner par p' q e → BeginsAct w funcs t a rest env par p → BesideValues p p' → Claims p.values.knows m p'.values.knows → Lacks p.values.knows m.slot → p'.values.knows.claims.over ≡ 0 → a ≡ Make d → inner ≡ bind d (ref m) env → Follows (then_ended (A m) e) f → LeavesAct w room deep t a rest env par p q f
-leaves_make_on w funcs room deep t a rest env par p p' q e f d m inner k b be c l o is env_is h = leaves_make w funcs room deep t a rest env par p d m p' b be c l o inner is env_is q e f k h
+pub leaves_make_on : (w : Setting Handle) (funcs : List Func) (room : ℕ) (deep : Tracing Handle) (first : Cuts Handle) (none : StartsEmpty first) (short : Shortens deep first) (t : Tables) (a : Action Handle) (rest : List Stmt) (env : Env Handle) (par : Option Handle) (p p' q : Pass) (e f : Ended Kept) (d : ℕ) (m : Handle) (inner : Env Handle) → Leaves w deep first t rest inner par p' q e → BeginsAct w funcs t a rest env par p → BesideValues p p' → Claims p.values.knows m p'.values.knows → Lacks p.values.knows m.slot → p'.values.knows.claims.over ≡ 0 → a ≡ Make d → inner ≡ bind d (ref m) env → Follows (then_ended (A m) e) f → LeavesAct w room deep first t a rest env par p q f
+leaves_make_on w funcs room deep first none short t a rest env par p p' q e f d m inner k b be c l o is env_is h = leaves_make w funcs room deep first none short t a rest env par p d m p' b be c l o inner is env_is q e f k h
 
-pub leaves_put_on : (w : Setting Handle) (funcs : List Func) (room : ℕ) (deep : Tracing Handle) (t : Tables) (a : Action Handle) (rest : List Stmt) (env : Env Handle) (par : Option Handle) (p p' q : Pass) (e f : Ended Kept) (m : Handle) (x : Plain) (ws : List ℕ) → Leaves w deep t rest env par p' q e → BeginsAct w funcs t a rest env par p → a ≡ Put m (plain_value x) → ws ≡ words_of x → of_words ws ≡ Some x → BesideValues p p' → p'.values.knows ≡ wrote m.slot (three_of ws) p.values.knows → Follows (then_ended (W m x) e) f → LeavesAct w room deep t a rest env par p q f
-leaves_put_on w funcs room deep t a rest env par p p' q e f m x ws k b is words value be wr h = leaves_put w funcs room deep t a rest env par p m x ws is words value b p' be wr q e f k h
+pub leaves_put_on : (w : Setting Handle) (funcs : List Func) (room : ℕ) (deep : Tracing Handle) (first : Cuts Handle) (none : StartsEmpty first) (short : Shortens deep first) (t : Tables) (a : Action Handle) (rest : List Stmt) (env : Env Handle) (par : Option Handle) (p p' q : Pass) (e f : Ended Kept) (m : Handle) (x : Plain) (ws : List ℕ) → Leaves w deep first t rest env par p' q e → BeginsAct w funcs t a rest env par p → a ≡ Put m (plain_value x) → ws ≡ words_of x → of_words ws ≡ Some x → BesideValues p p' → p'.values.knows ≡ wrote m.slot (three_of ws) p.values.knows → Follows (then_ended (W m x) e) f → LeavesAct w room deep first t a rest env par p q f
+leaves_put_on w funcs room deep first none short t a rest env par p p' q e f m x ws k b is words value be wr h = leaves_put w funcs room deep first none short t a rest env par p m x ws is words value b p' be wr q e f k h
 
-pub leaves_act_on : (w : Setting Handle) (funcs : List Func) (t : Tables) (env : Env Handle) (par : Option Handle) (p p' q : Pass) (e : Ended Kept) (room inner : ℕ) (body : List Stmt) (s : Stmt) (rest : List Stmt) (a : Action Handle) → LeavesAct w inner (traced w funcs inner) t a rest env par p' q e → inner ≡ room - 1 → s ∷ rest ≡ body → Begins w funcs t body env par p → BesideValues p p' → Looked p.values.knows p'.values.knows → ((heap : Heap) → Readable w env p.values.knows heap (out-Stmt s) → action_of (listed w) w funcs env heap (out-Stmt s) ≡ Ok a) → 0 < room → Leaves w (traced w funcs room) t body env par p q e
+pub leaves_act_on : (w : Setting Handle) (funcs : List Func) (t : Tables) (env : Env Handle) (par : Option Handle) (p p' q : Pass) (e : Ended Kept) (room inner : ℕ) (body : List Stmt) (s : Stmt) (rest : List Stmt) (a : Action Handle) → LeavesAct w inner (traced w funcs inner) (cut_short w funcs inner) t a rest env par p' q e → inner ≡ room - 1 → s ∷ rest ≡ body → Begins w funcs t body env par p → BesideValues p p' → Looked p.values.knows p'.values.knows → ((heap : Heap) → Readable w env p.values.knows heap (out-Stmt s) → action_of (listed w) w funcs env heap (out-Stmt s) ≡ Ok a) → 0 < room → Leaves w (traced w funcs room) (cut_short w funcs room) t body env par p q e
 leaves_act_on w funcs t env par p p' q e room inner body s rest a k i is b be l asked h =
-    leaves_act w funcs t env par p body s rest is b p' be l a asked room q e h (subst (λ z. LeavesAct w z (traced w funcs z) t a rest env par p' q e) i k)
+    leaves_act w funcs t env par p body s rest is b p' be l a asked room q e h (subst (λ z. LeavesAct w z (traced w funcs z) (cut_short w funcs z) t a rest env par p' q e) i k)

@@ -21,7 +21,6 @@ use Rattle.psac_marks.specs.Passes.{Claims as ClaimsNode, Keeps, IsKept, slot_of
 use Rattle.psac_fork.specs.declared.tables.Pass.{Pass}
 use Rattle.psac_fork.specs.declared.tables.Tables.{Tables}
 use Rattle.psac_fork.specs.Whole.{IsOf, HasRoom}
-use Rattle.psac_model.specs.declared.ends.CapKind.{CapKind}
 use Rattle.psac_model.specs.declared.ends.CapKind.TheVariants as cap
 use Rattle.psac_model.specs.Names.{Env}
 use Rattle.psac_model.specs.Tree.{Reads}
@@ -38,12 +37,12 @@ use Rattle.psac_trace.specs.declared.halt.Halt.{Halt}
 use Rattle.psac_trace.specs.declared.halt.Halt.TheVariants as halt
 use Rattle.psac_trace.specs.Rights.{Tidy, Sees}
 use Rattle.psac_trace.specs.Fit.{Fit, SetsReady, AtHand, ParentKept}
-use Rattle.psac_trace.specs.Grown.{Made, nothing, followed, count, claims_in, as_own, Moves}
+use Rattle.psac_trace.specs.Grown.{Made, nothing, followed, as_own, Moves}
 use Rattle.psac_trace.specs.Running.{Opens, HaltsFor, nodes_only, links_only, read_made, Began}
 use Rattle.psac_trace.proofs.Claims.{append_none, over_past, drawn_more}
 use Rattle.psac_trace.proofs.Growing.{keeps_on}
-use Rattle.psac_trace.proofs.Moving.{each_cap, moves_none, moves_then, full_then, BesideMarks, BesideReaders, marks_room, readers_room, moves_node, moves_no_node, moves_link, moves_no_link}
-use Rattle.psac_trace.proofs.Leaving.{room_over, most_front}
+use Rattle.psac_trace.proofs.Moving.{moves_none, moves_then, full_then, BesideMarks, BesideReaders, marks_room, readers_room, moves_node, moves_no_node, moves_link, moves_no_link}
+use Rattle.psac_trace.proofs.Leaving.{most_front}
 
 pub drop_at : {A : Type 0} (xs : List A) (i : ℕ) (d : A) → i < length xs → drop i xs ≡ slice_index_or xs i d ∷ drop (suc i) xs
 drop_at [] i d h = absurd (omega arith)
@@ -69,30 +68,37 @@ module _ (t : Tables) (p q : Pass) (of : IsOf p t) (tidy : Tidy p.values.knows) 
       let low : length v.claims.list ≤ at.index = subst (λ z. z ≤ at.index) list past in
       let o : q.marks.knows.claims.over ≡ v.claims.over + 1 = ap (λ (z : MarksView). z.claims.over) e ∙ over_past v.claims at.index low in
       let r = room.2 in
-      let values_is = ap (λ z. z.knows.claims.over) b.values ∙ room.0 in
       let readers_is = ap (λ z. z.knows.claims.over) b.readers ∙ room.1 in
       record {
         made = nothing;
         moves = moves_no_node t p q of tidy fit b at.index low e;
-        most = each_cap (λ c. count c nothing + (claims_in c q).over ≤ count c (nodes_only ((h, par) ∷ []))) (omega (arith, o, r)) (omega (arith, values_is)) (omega (arith, readers_is));
+        same = ap (λ z. z.knows) b.values;
+        mods = refl;
+        most = (omega (arith, o, r), omega (arith, readers_is));
         full = record { list = list; past = past; drew = subst (λ (z : MarksView). times at.index v.claims.drawn < times at.index z.claims.drawn) (sym e) (drawn_more v.claims at.index) };
       }
 
 -- halts, behind what was made before, and with more begun
-pub halts_more : (t : Tables) (p q : Pass) (a b : Made) (h : Halt) → ((c : CapKind) → count c a ≤ count c b) → HaltsFor t p q a h → HaltsFor t p q b h
-halts_more t p q a b (halt.Fault _ _) l w = absurd w
-halts_more t p q a b (halt.Full _ _) l w = record { made = w.made; moves = w.moves; most = λ c. (let x = w.most c in let y = l c in omega (arith, x, y)); full = w.full }
-halts_more t p q a b halt.NoMemory l w = record { made = w.made; moves = w.moves; most = λ c. (let x = w.most c in let y = l c in omega (arith, x, y)); full = w.full }
+pub halts_more : (t : Tables) (p q : Pass) (a b : Made) (h : Halt) → a.mods ≡ b.mods → length a.nodes ≤ length b.nodes → length a.links ≤ length b.links → HaltsFor t p q a h → HaltsFor t p q b h
+halts_more t p q a b (halt.Fault _ _) m n l w = absurd w
+halts_more t p q a b (halt.Full _ _) m n l w = record { made = w.made; moves = w.moves; same = w.same; mods = w.mods ∙ m; most = (let x = w.most.0 in let y = w.most.1 in (omega (arith, x, n), omega (arith, y, l))); full = w.full }
+halts_more t p q a b halt.NoMemory m n l w = record { made = w.made; moves = w.moves; same = w.same; mods = w.mods ∙ m; most = (let x = w.most.0 in let y = w.most.1 in (omega (arith, x, n), omega (arith, y, l))); full = w.full }
 
-pub halts_then : (t : Tables) (p u q : Pass) (m a : Made) (h : Halt) → Moves t p u m → HaltsFor t u q a h → HaltsFor t p q (followed m a) h
-halts_then t p u q m a (halt.Fault _ _) mv w = absurd w
-halts_then t p u q m a (halt.Full which at) mv w =
-    record { made = followed m w.made; moves = moves_then t p u q m w.made mv w.moves; most = most_front q m w.made a w.most; full = full_then t p u q m (record { which = which; index = at.index; room = at.room }) mv w.full }
-halts_then t p u q m a halt.NoMemory mv w = record { made = followed m w.made; moves = moves_then t p u q m w.made mv w.moves; most = most_front q m w.made a w.most; full = tt }
+pub halts_then : (t : Tables) (p u q : Pass) (m a : Made) (h : Halt) → Moves t p u m → u.values.knows ≡ p.values.knows → HaltsFor t u q a h → HaltsFor t p q (followed m a) h
+halts_then t p u q m a (halt.Fault _ _) mv e w = absurd w
+halts_then t p u q m a (halt.Full which at) mv e w =
+    let front = most_front q m w.made a (w.mods, w.most) in
+    record { made = followed m w.made; moves = moves_then t p u q m w.made mv w.moves; same = w.same ∙ e; mods = front.0; most = front.1; full = full_then t p u q m (record { which = which; index = at.index; room = at.room }) mv w.full }
+halts_then t p u q m a halt.NoMemory mv e w =
+    let front = most_front q m w.made a (w.mods, w.most) in
+    record { made = followed m w.made; moves = moves_then t p u q m w.made mv w.moves; same = w.same ∙ e; mods = front.0; most = front.1; full = tt }
 
 -- want of memory
-pub memory_halts : (t : Tables) (p q : Pass) (m b : Made) → Moves t p q m → HasRoom q → ((c : CapKind) → count c m ≤ count c b) → HaltsFor t p q b halt.NoMemory
-memory_halts t p q m b mv r l = record { made = m; moves = mv; most = λ c. (let o = room_over q r c in let x = l c in omega (arith, o, x)); full = tt }
+pub memory_halts : (t : Tables) (p q : Pass) (m b : Made) → Opens t p q m → m.mods ≡ b.mods → length m.nodes ≤ length b.nodes → length m.links ≤ length b.links → HaltsFor t p q b halt.NoMemory
+memory_halts t p q m b op e n l =
+    let on = op.room.2 in
+    let ol = op.room.1 in
+    record { made = m; moves = op.moves; same = op.same; mods = e; most = (omega (arith, on, n), omega (arith, ol, l)); full = tt }
 
 -- links
 
@@ -152,12 +158,13 @@ module _ (t : Tables) (p q : Pass) (of : IsOf p t) (tidy : Tidy p.values.knows) 
       let low : length v.claims.list ≤ at.index = subst (λ z. z ≤ at.index) list past in
       let o : q.readers.knows.claims.over ≡ v.claims.over + 1 = ap (λ (z : ReadersView). z.claims.over) e ∙ over_past v.claims at.index low in
       let r = room.1 in
-      let values_is = ap (λ z. z.knows.claims.over) b.values ∙ room.0 in
       let marks_is = ap (λ z. z.knows.claims.over) b.marks ∙ room.2 in
       record {
         made = nothing;
         moves = moves_no_link t p q of tidy fit b at.index low e;
-        most = each_cap (λ c. count c nothing + (claims_in c q).over ≤ count c (links_only (s ∷ []))) (omega (arith, marks_is)) (omega (arith, values_is)) (omega (arith, o, r));
+        same = ap (λ z. z.knows) b.values;
+        mods = refl;
+        most = (omega (arith, marks_is), omega (arith, o, r));
         full = record { list = list; past = past; drew = subst (λ (z : ReadersView). times at.index v.claims.drawn < times at.index z.claims.drawn) (sym e) (drawn_more v.claims at.index) };
       }
 
@@ -176,9 +183,7 @@ module _ (t : Tables) (p u q : Pass) (node : Handle) (all : List Linked) (op : O
       let a : Made = followed (links_only ls) (links_only (s ∷ [])) in
       let k = length-append ls (s ∷ []) in
       let rest : Made = links_only (map (stands node) (all ++ map unlinked seen)) in
-      halts_more t p q a rest h
-      (each_cap (λ c. count c a ≤ count c rest) (omega arith) (omega arith) (omega (arith, n, k, more)))
-      (halts_then t p u q (links_only ls) (links_only (s ∷ [])) h op.moves w)
+      halts_more t p q a rest h refl (omega arith) (omega (arith, n, k, more)) (halts_then t p u q (links_only ls) (links_only (s ∷ [])) h op.moves op.same w)
 
 pub none_linked : (t : Tables) (p : Pass) (node : Handle) (all : List Linked) → all ≡ [] → IsOf p t → Tidy p.values.knows → Fit p → HasRoom p → Opens t p p (links_only (map (stands node) all))
 none_linked t p node all e of tidy fit room = subst (λ z. Opens t p p (links_only (map (stands node) z))) (sym e) (record { moves = moves_none t p of tidy fit; same = refl; room = room })
@@ -191,8 +196,7 @@ link_lost t p q node all more s seen l is op =
     let k = length-append all (s ∷ []) in
     let d = length_map (stands node) all in
     let rest : Made = links_only (map (stands node) (all ++ map unlinked seen)) in
-    memory_halts t p q (links_only (map (stands node) more)) rest op.moves op.room
-    (each_cap (λ c. count c (links_only (map (stands node) more)) ≤ count c rest) (omega arith) (omega arith) (omega (arith, n, m, k, d, l)))
+    memory_halts t p q (links_only (map (stands node) more)) rest op refl (omega arith) (omega (arith, n, m, k, d, l))
 
 -- the environment as a record keeps it
 abbrev pub kept_binding : Binding → Bound
@@ -243,23 +247,18 @@ module _ (t : Tables) (p p1 p2 p3 : Pass) (par : Option Handle) (node : Handle) 
     links_halt all r h n rs w =
         let a : Made = followed (nodes_only ((node, par) ∷ (block, Some node) ∷ [])) (links_only (map (stands block) all)) in
         let same : length (map (stands block) all) ≡ length ((map (stands r.node) r.reads ++ []) ++ []) = ap length (ap (λ z. map (stands block) z) (sym rs) ∙ ap (λ z. map (stands z) r.reads) (sym n) ∙ sym (links_end (map (stands r.node) r.reads))) in
-        halts_more t p p3 a (read_made par node r) h
-        (each_cap (λ c. count c a ≤ count c (read_made par node r)) (omega arith) (omega arith) (omega (arith, same)))
-        (halts_then t p p2 p3 (nodes_only ((node, par) ∷ (block, Some node) ∷ [])) (links_only (map (stands block) all)) h nodes_moved w)
+        halts_more t p p3 a (read_made par node r) h refl (omega arith) (omega (arith, same))
+        (halts_then t p p2 p3 (nodes_only ((node, par) ∷ (block, Some node) ∷ [])) (links_only (map (stands block) all)) h nodes_moved (two.same ∙ one.same) w)
 
   -- the second node is wanting
   pub block_halt : (r : Reading) (h : Halt) → HaltsFor t p1 p2 (nodes_only ((r.node, Some node) ∷ [])) h → HaltsFor t p p2 (read_made par node r) h
   block_halt r h w =
       let a : Made = followed (nodes_only ((node, par) ∷ [])) (nodes_only ((r.node, Some node) ∷ [])) in
-      halts_more t p p2 a (read_made par node r) h
-      (each_cap (λ c. count c a ≤ count c (read_made par node r)) (omega arith) (omega arith) (omega arith))
-      (halts_then t p p1 p2 (nodes_only ((node, par) ∷ [])) (nodes_only ((r.node, Some node) ∷ [])) h one.moves w)
+      halts_more t p p2 a (read_made par node r) h refl (omega arith) (omega arith) (halts_then t p p1 p2 (nodes_only ((node, par) ∷ [])) (nodes_only ((r.node, Some node) ∷ [])) h one.moves one.same w)
 
 -- the first node is wanting
 pub step_halt : (t : Tables) (p q : Pass) (par : Option Handle) (node : Handle) (r : Reading) (h : Halt) → HaltsFor t p q (nodes_only ((node, par) ∷ [])) h → HaltsFor t p q (read_made par node r) h
-step_halt t p q par node r h w =
-    halts_more t p q (nodes_only ((node, par) ∷ [])) (read_made par node r) h
-    (each_cap (λ c. count c (nodes_only ((node, par) ∷ [])) ≤ count c (read_made par node r)) (omega arith) (omega arith) (omega arith)) w
+step_halt t p q par node r h w = halts_more t p q (nodes_only ((node, par) ∷ [])) (read_made par node r) h refl (omega arith) (omega arith) w
 
 pub memory_lost : (t : Tables) (p q : Pass) (m : Made) → Opens t p q m → HaltsFor t p q m halt.NoMemory
-memory_lost t p q m op = memory_halts t p q m m op.moves op.room (λ c. omega arith)
+memory_lost t p q m op = memory_halts t p q m m op refl (omega arith) (omega arith)

@@ -119,6 +119,19 @@ module _ (v u : ValueView) (m : Handle) (c : Claims v m u) (l : Lacks v m.slot) 
   pub claimed_kept : Tidy v → Kept v u
   claimed_kept t = record { branch = branch_is; fixed = ap (λ (z : ValueView). z.fixed) c.5; known = known_is; mine = claimed_old; tidy = claimed_tidy t }
 
+-- what is known of the same words
+pub sees_same : (v u : ValueView) → u.mine ≡ v.mine → u.known ≡ v.known → (m : Handle) (x : Value Handle) → Sees v m x → Sees u m x
+sees_same v u mine known m x s = (
+  s.0,
+  s.1,
+  ⊎_elim
+      (λ (a : (w : OwnedView) × Member w v.mine × (w.of ≡ m) × (w.words ≡ all_words s.0)). inl (a.0, subst (Member a.0) (sym mine) a.1, a.2, a.3))
+      (λ (a : (e : KnownView) × Member e v.known × (e.of ≡ m) × (e.words ≡ all_words s.0)). inr (a.0, subst (Member a.0) (sym known) a.1, a.2, a.3))
+      s.2,
+  s.3,
+  s.4,
+)
+
 pub three_is : (p : Plain) → of_words (three_of (words_of p)) ≡ of_words (words_of p)
 three_is plain.Nil = refl
 three_is (plain.Bool b) = refl

@@ -8,7 +8,7 @@ use Rattle.psac_values.specs.declared.view.ValueView.{ValueView}
 use Rattle.psac_fork.specs.declared.tables.Pass.{Pass}
 use Rattle.psac_fork.specs.declared.tables.Tables.{Tables}
 use Rattle.psac_fork.specs.Whole.{IsOf, HasRoom}
-use Rattle.psac_model.specs.declared.ends.CapKind.{CapKind}
+use Rattle.psac_model.specs.declared.ends.CapKind.TheVariants as cap
 use Rattle.psac_model.specs.declared.ends.End.{End}
 use Rattle.psac_model.specs.declared.ends.End.TheVariants.{Done, Stop}
 use Rattle.psac_model.specs.Names.{Env, bound}
@@ -21,12 +21,15 @@ use Rattle.psac_traced.specs.Rec as rec
 use Rattle.psac_traced.specs.Rec.{Rec, writes}
 use Rattle.psac_traced.specs.Traced.{Traces as Tracing, acts}
 use Rattle.psac_traced.specs.Holds.{EachOf}
+use Rattle.psac_ops.specs.Named.{same_handle}
+use Rattle.psac_cut.specs.CutShort.{Cuts, cuts}
+use Rattle.psac_cut.specs.Based.{CutOn}
 use Rattle.psac_record.specs.declared.parts.Reading.{Reading}
 use Rattle.psac_record.specs.Kept.{Kept, E, S, R, Stands, reads_of, env_of}
 use Rattle.psac_trace.specs.declared.halt.Halt.{Halt}
 use Rattle.psac_trace.specs.declared.halt.Halt.TheVariants as halt
 use Rattle.psac_trace.specs.Fit.{Fit, ParentKept}
-use Rattle.psac_trace.specs.Grown.{Made, made_below, count, claims_in, as_own, Moves, Cause, IsFull}
+use Rattle.psac_trace.specs.Grown.{Made, made_below, count, as_own, Moves, Cause, IsFull}
 use Rattle.psac_trace.specs.Rights.{Heap, held, In, Within, Wider, Named, Sees, Target, Tidy, Ready, Moved}
 use Rattle.psac_trace.specs.Told.{Ended, Good, Fault, Other, Told, Needs, Tells, AreChecked, then_ended, bared, Follows}
 
@@ -36,15 +39,16 @@ RoomAfter p (Good k) = HasRoom p
 RoomAfter p (Fault k i n) = HasRoom p
 RoomAfter p (Other k why) = Unit {0}
 
--- in each table, what was made and the indexes that were drawn in vain are no more than what was begun
+-- of nodes and of links, what was made and the indexes that were drawn in vain are no more than what was begun
 abbrev pub AtMost : Pass → Made → Made → Type 0
-AtMost q made begun = (c : CapKind) → count c made + (claims_in c q).over ≤ count c begun
+AtMost q made begun = (count cap.Nodes made + q.marks.knows.claims.over ≤ count cap.Nodes begun) × (count cap.Links made + q.readers.knows.claims.over ≤ count cap.Links begun)
 
--- what a call made is all that it recorded, also where it stopped at a fault; else no more than was begun
+-- what a call made is all that it recorded, also where it stopped at a fault; else it is the modifiables that were begun, and no
+-- more nodes and links
 abbrev pub AllMade : (Kept → Made) → Pass → Made → Ended Kept → Type 0
 AllMade made_by q made (Good k) = made ≡ made_by k
 AllMade made_by q made (Fault k i n) = made ≡ made_by k
-AllMade made_by q made (Other k why) = AtMost q made (made_by k)
+AllMade made_by q made (Other k why) = (made.mods ≡ (made_by k).mods) × AtMost q made (made_by k)
 
 -- a full table is so by an index that this call drew
 abbrev pub FullBy : Pass → Pass → Ended Kept → Type 0
@@ -62,13 +66,13 @@ pub record Begins (w : Setting Handle) (funcs : List Func) (t : Tables) (body : 
   pub needs : Needs w body env p.values.knows
 
 -- what a run of statements leaves
-pub record Leaves (w : Setting Handle) (deep : Tracing Handle) (t : Tables) (body : List Stmt) (env : Env Handle) (par : Option Handle) (p q : Pass) (e : Ended Kept) : Type 0 where
+pub record Leaves (w : Setting Handle) (deep : Tracing Handle) (first : Cuts Handle) (t : Tables) (body : List Stmt) (env : Env Handle) (par : Option Handle) (p q : Pass) (e : Ended Kept) : Type 0 where
   pub made : Made
   pub moves : Moves t p q made
   pub all : AllMade (made_below par) q made e
   pub room : RoomAfter q e
   pub full : FullBy p q e
-  pub tells : Tells w deep body env p.values.knows q.values.knows (bared e)
+  pub tells : Tells w deep first body env p.values.knows q.values.knows (bared e)
 
 -- an inner body begins as it needs, and writes the destinations that the statement is to write
 pub record Enters (w : Setting Handle) (st mid : Standing) (env : Env Handle) (v : ValueView) (base : Heap) (body : List Stmt) (inner : Env Handle) : Type 0 where
@@ -104,8 +108,8 @@ Goes w st mid env v base (Sides left right) = Parts st mid left right
 abbrev pub NeedsAct : Setting Handle → Action Handle → List Stmt → Env Handle → ValueView → Type 0
 NeedsAct w a rest env v = (base : Heap) × (st : Standing) × (mid : Standing) × (end : Standing) × (series rest mid ≡ Some end) × Ready w st end.unwritten env v base × Goes w st mid env v base a
 
-abbrev pub TellsAct : Setting Handle → ℕ → Tracing Handle → Action Handle → List Stmt → Env Handle → ValueView → ValueView → Ended (Rec Handle) → Type 0
-TellsAct w room deep a rest env v u e = (base : Heap) (st mid end : Standing) → series rest mid ≡ Some end → Ready w st end.unwritten env v base → Goes w st mid env v base a → Told (acts room deep a) rest st end.unwritten env v u base e
+abbrev pub TellsAct : Setting Handle → ℕ → Tracing Handle → Cuts Handle → Action Handle → List Stmt → Env Handle → ValueView → ValueView → Ended (Rec Handle) → Type 0
+TellsAct w room deep first a rest env v u e = (base : Heap) (st mid end : Standing) → series rest mid ≡ Some end → Ready w st end.unwritten env v base → Goes w st mid env v base a → Told (acts room deep a) (cuts room deep first a) rest st end.unwritten env v u base e
 
 -- what a read block read the pass knows
 abbrev pub Sights : Action Handle → ValueView → Type 0
@@ -122,13 +126,13 @@ pub record BeginsAct (w : Setting Handle) (funcs : List Func) (t : Tables) (a : 
   pub sights : Sights a p.values.knows
   pub needs : NeedsAct w a rest env p.values.knows
 
-pub record LeavesAct (w : Setting Handle) (level : ℕ) (deep : Tracing Handle) (t : Tables) (a : Action Handle) (rest : List Stmt) (env : Env Handle) (par : Option Handle) (p q : Pass) (e : Ended Kept) : Type 0 where
+pub record LeavesAct (w : Setting Handle) (level : ℕ) (deep : Tracing Handle) (first : Cuts Handle) (t : Tables) (a : Action Handle) (rest : List Stmt) (env : Env Handle) (par : Option Handle) (p q : Pass) (e : Ended Kept) : Type 0 where
   pub made : Made
   pub moves : Moves t p q made
   pub all : AllMade (made_below par) q made e
   pub room : RoomAfter q e
   pub full : FullBy p q e
-  pub tells : TellsAct w level deep a rest env p.values.knows q.values.knows (bared e)
+  pub tells : TellsAct w level deep first a rest env p.values.knows q.values.knows (bared e)
 
 -- behind a compound statement, whose node this is and which ended so, the rest begins where that is done
 abbrev pub BeginsAfter : Setting Handle → List Func → Tables → Handle → Ended Kept → List Stmt → Env Handle → Pass → Type 0
@@ -136,10 +140,10 @@ BeginsAfter w funcs t node (Good k) rest env p = Begins w funcs t rest env (Some
 BeginsAfter w funcs t node e rest env p = Unit {0}
 
 -- and what it leaves then; else nothing happens
-abbrev pub LeavesAfter : Setting Handle → Tracing Handle → Tables → Handle → Ended Kept → List Stmt → Env Handle → Pass → Pass → Ended Kept → Type 0
-LeavesAfter w deep t node (Good k) rest env p q e = (o : Ended Kept) × Leaves w deep t rest env (Some node) p q o × Follows (then_ended (S node k) o) e
-LeavesAfter w deep t node (Fault k i n) rest env p q e = (q ≡ p) × (e ≡ Fault (S node k E) i n)
-LeavesAfter w deep t node (Other k why) rest env p q e = (q ≡ p) × (e ≡ Other (S node k E) why)
+abbrev pub LeavesAfter : Setting Handle → Tracing Handle → Cuts Handle → Tables → Handle → Ended Kept → List Stmt → Env Handle → Pass → Pass → Ended Kept → Type 0
+LeavesAfter w deep first t node (Good k) rest env p q e = (o : Ended Kept) × Leaves w deep first t rest env (Some node) p q o × Follows (then_ended (S node k) o) e
+LeavesAfter w deep first t node (Fault k i n) rest env p q e = (q ≡ p) × (e ≡ Fault (S node k E) i n)
+LeavesAfter w deep first t node (Other k why) rest env p q e = (q ≡ p) × (e ≡ Other (S node k E) why)
 
 -- nodes and links
 
@@ -149,10 +153,12 @@ pub record Opens (t : Tables) (p q : Pass) (made : Made) : Type 0 where
   pub same : q.values.knows ≡ p.values.knows
   pub room : HasRoom q
 
--- there was want of slots or of memory; this was begun
+-- there was want of slots or of memory; this was begun, and no words changed
 pub record Wants (t : Tables) (p q : Pass) (begun : Made) (why : Option Cause) : Type 0 where
   pub made : Made
   pub moves : Moves t p q made
+  pub same : q.values.knows ≡ p.values.knows
+  pub mods : made.mods ≡ begun.mods
   pub most : AtMost q made begun
   pub full : IfSome why (IsFull p q)
 
@@ -187,22 +193,22 @@ pub record Paired (deep : Tracing Handle) (ls rs : List Stmt) (env : Env Handle)
   pub fresh : (m : Handle) → In (writes b ++ writes a) m → held base m ≡ None
 
 -- what both sides tell
-abbrev pub Both : Tracing Handle → List Stmt → List Stmt → Env Handle → ValueView → Standing → List ℕ → ValueView → Heap → Ended (Rec Handle) → Type 0
-Both deep ls rs env v st left u base (Good t) =
+abbrev pub Both : ℕ → Tracing Handle → Cuts Handle → List Stmt → List Stmt → List Stmt → Env Handle → ValueView → Standing → List ℕ → ValueView → Heap → Ended (Rec Handle) → Type 0
+Both room deep first ls rs rest env v st left u base (Good t) =
     (a : Rec Handle) × (b : Rec Handle) × (rec.P a b ≡ t) × Paired deep ls rs env base a b Done Done × Moved st left env v u base (writes b ++ writes a)
-Both deep ls rs env v st left u base (Fault t k n) =
+Both room deep first ls rs rest env v st left u base (Fault t k n) =
     (a : Rec Handle) × (b : Rec Handle) × (rec.P a b ≡ t) × ((e : End) × (f : End) × (first_stop e f ≡ Stop k n) × Paired deep ls rs env base a b e f × Within base (Sees u))
-Both deep ls rs env v st left u base (Other t why) = Unit {0}
+Both room deep first ls rs rest env v st left u base (Other t why) = CutOn same_handle (cuts room deep first (Sides ls rs)) rest env base (rec.S t rec.E) u.claims.over × Within base (Sees u)
 
-abbrev pub TellsBoth : Setting Handle → Tracing Handle → List Stmt → List Stmt → List Stmt → Env Handle → ValueView → ValueView → Ended (Rec Handle) → Type 0
-TellsBoth w deep ls rs rest env v u e =
-    (base : Heap) (st mid end : Standing) → series rest mid ≡ Some end → Ready w st end.unwritten env v base → (p : Parts st mid ls rs) → Both deep ls rs env v st (in_both p.one p.two) u base e
+abbrev pub TellsBoth : Setting Handle → ℕ → Tracing Handle → Cuts Handle → List Stmt → List Stmt → List Stmt → Env Handle → ValueView → ValueView → Ended (Rec Handle) → Type 0
+TellsBoth w room deep first ls rs rest env v u e =
+    (base : Heap) (st mid end : Standing) → series rest mid ≡ Some end → Ready w st end.unwritten env v base → (p : Parts st mid ls rs) → Both room deep first ls rs rest env v st (in_both p.one p.two) u base e
 
 -- what both sides leave
-pub record LeavesBoth (w : Setting Handle) (deep : Tracing Handle) (t : Tables) (ls rs rest : List Stmt) (env : Env Handle) (par : Option Handle) (p q : Pass) (e : Ended Kept) : Type 0 where
+pub record LeavesBoth (w : Setting Handle) (level : ℕ) (deep : Tracing Handle) (first : Cuts Handle) (t : Tables) (ls rs rest : List Stmt) (env : Env Handle) (par : Option Handle) (p q : Pass) (e : Ended Kept) : Type 0 where
   pub made : Made
   pub moves : Moves t p q made
   pub all : AllMade (made_below par) q made e
   pub room : RoomAfter q e
   pub full : FullBy p q e
-  pub tells : TellsBoth w deep ls rs rest env p.values.knows q.values.knows (bared e)
+  pub tells : TellsBoth w level deep first ls rs rest env p.values.knows q.values.knows (bared e)

@@ -20,6 +20,9 @@ use Rattle.psac_plain.specs.declared.halt.Halt.TheVariants as stopped
 use Rattle.psac_record.specs.declared.record.Record.{Record}
 use Rattle.psac_record.specs.Kept.{Kept, E, bare}
 use Rattle.psac_record.specs.Shown.{kept_of}
+use Rattle.psac_ops.specs.Named.{same_handle}
+use Rattle.psac_cut.specs.CutShort.{Cuts}
+use Rattle.psac_cut.specs.Based.{CutOn}
 use Rattle.psac_trace.specs.Grown.{Cause}
 use Rattle.psac_trace.specs.Rights.{Heap, held, In, Within, Wider, Sees, Ready, Moved}
 
@@ -29,24 +32,24 @@ pub record Traces (deep : Tracing Handle) (body : List Stmt) (env : Env Handle) 
   pub fresh : (m : Handle) → In (writes r) m → held base m ≡ None
 
 -- how a call ended, with what was recorded, which is thrown away but after Good. After Other, for which slots or memory were
--- wanting, it is what was begun: its last part may lack its slot
+-- wanting, it is what was begun: the last node or link may lack its slot
 pub data Ended (X : Type 0) : Type 0 where
   Good : (x : X) → Ended X
   Fault : (x : X) (kind : FaultKind) (line : ℕ) → Ended X
   Other : (x : X) (why : Option Cause) → Ended X
 
 -- what a call tells in each case
-abbrev pub Told : Tracing Handle → List Stmt → Standing → List ℕ → Env Handle → ValueView → ValueView → Heap → Ended (Rec Handle) → Type 0
-Told deep body st left env v w base (Good r) = Traces deep body env base r Done × Moved st left env v w base (writes r)
-Told deep body st left env v w base (Fault r k n) = Traces deep body env base r (Stop k n) × Within base (Sees w)
-Told deep body st left env v w base (Other r why) = Unit {0}
+abbrev pub Told : Tracing Handle → Cuts Handle → List Stmt → Standing → List ℕ → Env Handle → ValueView → ValueView → Heap → Ended (Rec Handle) → Type 0
+Told deep first body st left env v w base (Good r) = Traces deep body env base r Done × Moved st left env v w base (writes r)
+Told deep first body st left env v w base (Fault r k n) = Traces deep body env base r (Stop k n) × Within base (Sees w)
+Told deep first body st left env v w base (Other r why) = CutOn same_handle first body env base r w.claims.over × Within base (Sees w)
 
 -- where a pass is ready for statements that meet the series rule
 abbrev pub Needs : Setting Handle → List Stmt → Env Handle → ValueView → Type 0
 Needs w body env v = (base : Heap) × (st : Standing) × (end : Standing) × (series body st ≡ Some end) × Ready w st end.unwritten env v base
 
-abbrev pub Tells : Setting Handle → Tracing Handle → List Stmt → Env Handle → ValueView → ValueView → Ended (Rec Handle) → Type 0
-Tells w deep body env v u e = (base : Heap) (st end : Standing) → series body st ≡ Some end → Ready w st end.unwritten env v base → Told deep body st end.unwritten env v u base e
+abbrev pub Tells : Setting Handle → Tracing Handle → Cuts Handle → List Stmt → Env Handle → ValueView → ValueView → Ended (Rec Handle) → Type 0
+Tells w deep first body env v u e = (base : Heap) (st end : Standing) → series body st ≡ Some end → Ready w st end.unwritten env v base → Told deep first body st end.unwritten env v u base e
 
 -- each function of the program meets the rule
 abbrev pub AreChecked : List Func → Type 0

@@ -4,6 +4,7 @@ ghost use Rattle.std.specs.Thread.{IsSync};
 ghost use Rattle.psac_plain.specs.Slots.{env_of};
 ghost use Rattle.psac_plain.specs.Running.{action_view, reads_view};
 ghost use Rattle.psac_traced.specs.Traced.{traced};
+ghost use Rattle.psac_cut.specs.CutShort.{cut_short};
 ghost use Rattle.psac_model.specs.Fresh.{levels};
 ghost use Rattle.psac_model.specs.Run.{Body, Block, Sides, with_reads};
 ghost use Rattle.psac_record.specs.Kept.{Kept, E};
@@ -47,7 +48,7 @@ pub fn run_block<Rt: Threads + Sync, G: Gate + Sync>(
     mut pass: Pass,
 ) -> (Result<Record, Halt>, Pass)
     requires { Begins (setting_on ground.now texts.now) funcs.now tables.now body.now (env_of env.now) parent pass }
-    ensures { (k : Kept) × Leaves (setting_on ground.now texts.now) (traced (setting_on ground.now texts.now) funcs.now (levels - level)) tables.now body.now (env_of env.now) parent pass result.1 (ended_of k result.0) }
+    ensures { (k : Kept) × Leaves (setting_on ground.now texts.now) (traced (setting_on ground.now texts.now) funcs.now (levels - level)) (cut_short (setting_on ground.now texts.now) funcs.now (levels - level)) tables.now body.now (env_of env.now) parent pass result.1 (ended_of k result.0) }
 {
     let [s, rest @ ..] = body else {
         return (Ok(Record::empty()), pass);
@@ -104,7 +105,7 @@ fn act_on<Rt: Threads + Sync, G: Gate + Sync>(
     mut pass: Pass,
 ) -> (Result<Record, Halt>, Pass)
     requires { BeginsAct (setting_on ground.now texts.now) funcs.now tables.now (action_view (env_of env.now) action) rest.now (env_of env.now) parent pass }
-    ensures { (k : Kept) × LeavesAct (setting_on ground.now texts.now) (levels - level) (traced (setting_on ground.now texts.now) funcs.now (levels - level)) tables.now (action_view (env_of env.now) action.entry) rest.now (env_of env.now) parent pass result.1 (ended_of k result.0) }
+    ensures { (k : Kept) × LeavesAct (setting_on ground.now texts.now) (levels - level) (traced (setting_on ground.now texts.now) funcs.now (levels - level)) (cut_short (setting_on ground.now texts.now) funcs.now (levels - level)) tables.now (action_view (env_of env.now) action.entry) rest.now (env_of env.now) parent pass result.1 (ended_of k result.0) }
 {
     match action {
         Action::Bind(name, value) => match bound_in(alloc, env, name, value) {
@@ -173,7 +174,7 @@ fn run_inner<Rt: Threads + Sync, G: Gate + Sync>(
     pass: Pass,
 ) -> (Result<Record, Halt>, Pass)
     requires { BeginsAct (setting_on ground.now texts.now) funcs.now tables.now (Body body.now (env_of inner.now)) rest.now (env_of env.now) parent pass }
-    ensures { (k : Kept) × LeavesAct (setting_on ground.now texts.now) (levels - level) (traced (setting_on ground.now texts.now) funcs.now (levels - level)) tables.now (Body body.now (env_of inner.now)) rest.now (env_of env.now) parent pass result.1 (ended_of k result.0) }
+    ensures { (k : Kept) × LeavesAct (setting_on ground.now texts.now) (levels - level) (traced (setting_on ground.now texts.now) funcs.now (levels - level)) (cut_short (setting_on ground.now texts.now) funcs.now (levels - level)) tables.now (Body body.now (env_of inner.now)) rest.now (env_of env.now) parent pass result.1 (ended_of k result.0) }
 {
     let (claimed, pass) = stepped(tables, parent, pass);
     match claimed {
@@ -224,7 +225,7 @@ fn run_read<Rt: Threads + Sync, G: Gate + Sync>(
     pass: Pass,
 ) -> (Result<Record, Halt>, Pass)
     requires { BeginsAct (setting_on ground.now texts.now) funcs.now tables.now (Block number (reads_view seen.now) body.now (with_reads (env_of env.now) items.now (reads_view seen.now))) rest.now (env_of env.now) parent pass }
-    ensures { (k : Kept) × LeavesAct (setting_on ground.now texts.now) (levels - level) (traced (setting_on ground.now texts.now) funcs.now (levels - level)) tables.now (Block number (reads_view seen.now) body.now (with_reads (env_of env.now) items.now (reads_view seen.now))) rest.now (env_of env.now) parent pass result.1 (ended_of k result.0) }
+    ensures { (k : Kept) × LeavesAct (setting_on ground.now texts.now) (levels - level) (traced (setting_on ground.now texts.now) funcs.now (levels - level)) (cut_short (setting_on ground.now texts.now) funcs.now (levels - level)) tables.now (Block number (reads_view seen.now) body.now (with_reads (env_of env.now) items.now (reads_view seen.now))) rest.now (env_of env.now) parent pass result.1 (ended_of k result.0) }
 {
     let (begun, pass) = opened(alloc, tables, parent, level, number, env, seen, pass);
     match begun {
@@ -277,7 +278,7 @@ fn run_par<Rt: Threads + Sync, G: Gate + Sync>(
     pass: Pass,
 ) -> (Result<Record, Halt>, Pass)
     requires { BeginsAct (setting_on ground.now texts.now) funcs.now tables.now (Sides left.now right.now) rest.now (env_of env.now) parent pass }
-    ensures { (k : Kept) × LeavesAct (setting_on ground.now texts.now) (levels - level) (traced (setting_on ground.now texts.now) funcs.now (levels - level)) tables.now (Sides left.now right.now) rest.now (env_of env.now) parent pass result.1 (ended_of k result.0) }
+    ensures { (k : Kept) × LeavesAct (setting_on ground.now texts.now) (levels - level) (traced (setting_on ground.now texts.now) funcs.now (levels - level)) (cut_short (setting_on ground.now texts.now) funcs.now (levels - level)) tables.now (Sides left.now right.now) rest.now (env_of env.now) parent pass result.1 (ended_of k result.0) }
 {
     let (claimed, pass) = stepped(tables, parent, pass);
     match claimed {
@@ -329,7 +330,7 @@ fn run_both<Rt: Threads + Sync, G: Gate + Sync>(
     pass: Pass,
 ) -> (Result<Record, Halt>, Pass)
     requires { BeginsAct (setting_on ground.now texts.now) funcs.now tables.now (Sides left.now right.now) rest.now (env_of env.now) parent pass }
-    ensures { (k : Kept) × LeavesBoth (setting_on ground.now texts.now) (traced (setting_on ground.now texts.now) funcs.now (levels - level)) tables.now left.now right.now rest.now (env_of env.now) parent pass result.1 (ended_of k result.0) }
+    ensures { (k : Kept) × LeavesBoth (setting_on ground.now texts.now) (levels - level) (traced (setting_on ground.now texts.now) funcs.now (levels - level)) (cut_short (setting_on ground.now texts.now) funcs.now (levels - level)) tables.now left.now right.now rest.now (env_of env.now) parent pass result.1 (ended_of k result.0) }
 {
     let (claimed, pass) = stepped(tables, parent, pass);
     let par = match claimed {
@@ -379,7 +380,7 @@ fn run_both<Rt: Threads + Sync, G: Gate + Sync>(
         gate,
         move || -> (Result<Record, Halt>, Pass)
             requires { IsSync Rt.row × IsSync G.row × Begins (setting_on ground.now texts.now) funcs.now tables.now left.now (env_of env.now) (Some par) mine }
-            ensures { (k : Kept) × Leaves (setting_on ground.entry.now texts.entry.now) (traced (setting_on ground.entry.now texts.entry.now) funcs.entry.now (levels - level)) tables.entry.now left.entry.now (env_of env.entry.now) (Some par) mine result.1 (ended_of k result.0) }
+            ensures { (k : Kept) × Leaves (setting_on ground.entry.now texts.entry.now) (traced (setting_on ground.entry.now texts.entry.now) funcs.entry.now (levels - level)) (cut_short (setting_on ground.entry.now texts.entry.now) funcs.entry.now (levels - level)) tables.entry.now left.entry.now (env_of env.entry.now) (Some par) mine result.1 (ended_of k result.0) }
         {
             run_block(
                 rt,
@@ -399,7 +400,7 @@ fn run_both<Rt: Threads + Sync, G: Gate + Sync>(
         },
         move || -> (Result<Record, Halt>, Pass)
             requires { IsSync Rt.row × IsSync G.row × Begins (setting_on ground.now texts.now) funcs.now tables.now right.now (env_of env.now) (Some par) theirs }
-            ensures { (k : Kept) × Leaves (setting_on ground.entry.now texts.entry.now) (traced (setting_on ground.entry.now texts.entry.now) funcs.entry.now (levels - level)) tables.entry.now right.entry.now (env_of env.entry.now) (Some par) theirs result.1 (ended_of k result.0) }
+            ensures { (k : Kept) × Leaves (setting_on ground.entry.now texts.entry.now) (traced (setting_on ground.entry.now texts.entry.now) funcs.entry.now (levels - level)) (cut_short (setting_on ground.entry.now texts.entry.now) funcs.entry.now (levels - level)) tables.entry.now right.entry.now (env_of env.entry.now) (Some par) theirs result.1 (ended_of k result.0) }
         {
             run_block(
                 rt,
@@ -441,7 +442,7 @@ fn go_on<Rt: Threads + Sync, G: Gate + Sync>(
     pass: Pass,
 ) -> (Result<Record, Halt>, Pass)
     requires { BeginsAfter (setting_on ground.now texts.now) funcs.now tables.now node (ended_of E t) rest.now (env_of env.now) pass }
-    ensures { (j : Kept) → (k : Kept) × LeavesAfter (setting_on ground.now texts.now) (traced (setting_on ground.now texts.now) funcs.now (levels - level)) tables.now node (ended_of j t) rest.now (env_of env.now) pass result.1 (ended_of k result.0) }
+    ensures { (j : Kept) → (k : Kept) × LeavesAfter (setting_on ground.now texts.now) (traced (setting_on ground.now texts.now) funcs.now (levels - level)) (cut_short (setting_on ground.now texts.now) funcs.now (levels - level)) tables.now node (ended_of j t) rest.now (env_of env.now) pass result.1 (ended_of k result.0) }
 {
     match t {
         Ok(t) => {
