@@ -106,6 +106,7 @@ pub record ValuesNone (v w : ValueView) : Type 0 where
   pub list : w.claims.list ≡ (claiming.rewound v.claims).list ++ map later (by_slot v.claims.count v.claims.held)
   pub mine : w.mine ≡ filter (is_fixed v.fixed) v.mine
   pub known : w.known ≡ v.known
+  pub count : w.claims.count ≡ v.claims.count
   pub begun : (w.claims.counter ≡ Some 0) × (w.claims.drawn ≡ []) × (w.claims.over ≡ 0)
   pub fixed : w.fixed ≡ v.fixed
   pub branch : w.claims.branch ≡ v.claims.branch
@@ -118,6 +119,7 @@ pub record ReadersNone (v w : ReadersView) : Type 0 where
   pub sets : mods_of w.walk ≡ mods_of v.walk
   pub mods : w.mods ≡ v.mods
   pub shared : w.shared ≡ v.shared
+  pub count : w.claims.count ≡ v.claims.count
   pub begun : (w.claims.counter ≡ Some 0) × (w.claims.drawn ≡ []) × (w.claims.over ≡ 0)
   pub branch : w.claims.branch ≡ v.claims.branch
 
@@ -129,6 +131,7 @@ pub record MarksNone (v w : MarksView) : Type 0 where
   pub whole : claiming.Accounted w.claims
   pub list : w.claims.list ≡ (claiming.rewound v.claims).list ++ map later (by_slot v.claims.count v.claims.held)
   pub shared : w.shared ≡ v.shared
+  pub count : w.claims.count ≡ v.claims.count
   pub begun : (w.claims.counter ≡ Some 0) × (w.claims.drawn ≡ []) × (w.claims.over ≡ 0)
   pub asks : w.asks ≡ v.asks
   pub branch : w.claims.branch ≡ v.claims.branch
