@@ -1,0 +1,10 @@
+pub mod Places
+pub mod Holding
+pub mod Resting
+pub mod Settling
+pub mod Storing
+pub mod Tracing
+pub mod Running
+pub mod Answering
+pub mod Outputs
+pub mod Engine

@@ -1,0 +1,170 @@
+// An engine, and its commits.
+ghost use Rattle.std.specs.Prelude.{◌≡◌, ◌+◌, ◌*◌, [], true, false, is_some, length, IsSome};
+ghost use Rattle.std.specs.Option.{ForSome};
+ghost use Rattle.psac_inputs.specs.Batch.{empty_batch, put_all, GoesInto};
+ghost use Rattle.psac_model.specs.declared.ends.End.TheVariants.{Done};
+ghost use Rattle.psac_model.specs.Fresh.{fresh, main_of};
+ghost use Rattle.psac_fork.specs.Whole.{IsOf};
+ghost use Rattle.psac_record.specs.Shown.{rec_of};
+ghost use Rattle.psac_engine.specs.Commit.{IsCaps};
+ghost use Rattle.psac_anew.specs.Places.{fixed_slots};
+ghost use Rattle.psac_anew.specs.Resting.{HasAll, IsRested, IsCleared};
+ghost use Rattle.psac_anew.specs.Running.{Shows};
+ghost use Rattle.psac_anew.specs.Outputs.{HasOutputs};
+ghost use Rattle.psac_engine.specs.Sound.{fresh_over, world_with};
+
+use crate::anew::{outputs_of, run_program};
+use crate::settle::emptied;
+use crate::store::{put_grid, staged};
+use psac_base::NoMemory;
+use psac_check::Checked;
+use psac_engine::Answer;
+use psac_fork::{Crew, Gate, Pass, Tables};
+use psac_inputs::{Batch, Grid};
+use psac_model::{Caps, Work};
+use psac_ops::TextId;
+use psac_record::Record;
+use psac_syntax::Program;
+use std::alloc::Global;
+use std::thread::Threads;
+
+/// A program over a grid, the shared tables that its runs use, and the record of the run of the present grid.
+#[derive(Drop)]
+pub struct Engine {
+    alloc: Global,
+    program: Checked,
+    consts: Vec<TextId>,
+    caps: Caps,
+    grid: Grid,
+    tables: Tables,
+    // The pass of all that the tables have, but while a commit runs.
+    pass: Option<Pass>,
+    // The record of the run of the present grid, where the last commit kept it.
+    kept: Option<Record>,
+    commits: u64,
+    ghost main: { IsSome (main_of program) },
+    ghost texts: { length consts.items ≡ length program.texts },
+    ghost within: { IsCaps caps },
+    ghost here: { is_some pass ≡ true },
+    ghost held: { ForSome pass (λ p. IsOf p tables) },
+    ghost all: { ForSome pass (λ p. HasAll grid (length (world_with program consts.items).main.dests) caps (1 + 2 * commits) p) },
+    ghost rested: { ForSome pass IsRested },
+    ghost cleared: { ForSome pass (λ p. is_some kept ≡ false → IsCleared (fixed_slots grid (length (world_with program consts.items).main.dests)) p) },
+    ghost outputs: { ForSome pass (λ p. is_some kept ≡ true → HasOutputs (world_with program consts.items) grid p.values.knows) },
+    ghost small: { is_some kept ≡ true → fresh_over (world_with program consts.items) grid caps ≡ [] },
+    ghost done: { is_some kept ≡ true → (fresh (world_with program consts.items) grid).end ≡ Done },
+    ghost shows: { ForSome kept (λ r. ∥ Shows (world_with program consts.items) grid caps (rec_of r) ∥₁) },
+}
+
+impl Engine {
+    ghost use Rattle.std.specs.Prelude.{◌+◌, ◌<◌, IfOk, Some};
+    ghost use Rattle.psac_model.specs.Fresh.{outcome, world_of};
+    ghost use Rattle.psac_engine.specs.Commit.{Answers, kept_after, most_commits};
+    ghost use Rattle.psac_anew.specs.Engine.{IsOpened, IsSettled, caps_in, commits_in, grid_in, kept_in, world_in};
+
+    /// An engine in which nothing has run. The texts are those of the program, in its order.
+    pub fn open(
+        alloc: Global,
+        program: Checked,
+        consts: Vec<TextId>,
+        grid: Grid,
+        caps: Caps,
+    ) -> Result<Engine, NoMemory>
+        requires texts { length consts.items ≡ length program.texts }
+        requires caps { IsCaps caps }
+        ensures world { IfOk result (λ e. world_of program consts.items ≡ Some (world_in e)) }
+        ensures opened { IfOk result (IsOpened caps grid) }
+    {
+        program.program();
+        let outs = outputs_of(&program);
+        let fixed = grid.room() * grid.cols() + outs + 1;
+        let (tables, mut pass) = Tables::new(alloc, fixed, caps)?;
+        put_grid(&tables.values, &mut pass.values, &grid, outs);
+        Ok(Engine {
+            alloc,
+            program,
+            consts,
+            caps,
+            grid,
+            tables,
+            pass: Some(pass),
+            kept: None,
+            commits: 0,
+        })
+    }
+
+    /// Puts the batch into the grid, empties it, and runs the program anew over the grid. The grid has the batch
+    /// whatever is answered. With an error no run is kept.
+    ///
+    /// Each commit runs anew, also where a run is kept and where nothing differs.
+    pub fn commit<Rt: Threads + Sync, G: Gate + Sync>(
+        &mut self,
+        rt: &Rt,
+        batch: &mut Batch,
+        crew: &Crew,
+        gate: &G,
+    ) -> Result<Work, Answer>
+        requires goes { GoesInto batch.old (grid_in self.old) }
+        requires few { commits_in self.old < most_commits }
+        ensures grid { grid_in self.new ≡ put_all batch.old (grid_in self.old) }
+        ensures answer { Answers (outcome (world_in self.old) (caps_in self.old) (grid_in self.new)) result }
+        ensures kept { kept_in self.new ≡ kept_after (world_in self.old) (grid_in self.new) result }
+        ensures commits { commits_in self.new ≡ commits_in self.old + 1 }
+        ensures world { world_in self.new ≡ world_in self.old }
+        ensures caps { caps_in self.new ≡ caps_in self.old }
+        ensures batch { batch.new ≡ empty_batch (grid_in self.new) }
+        ensures goes { GoesInto batch.new (grid_in self.new) }
+    {
+        // From it the check learns what holds of the grid.
+        self.grid.rows();
+        let outs = outputs_of(&self.program);
+        let Some(pass) = self.pass.take() else {
+            unreachable!()
+        };
+        let pass = emptied(self.kept.take(), &self.tables, pass);
+        let pass = staged(&self.tables, pass, &mut self.grid, batch, outs);
+        let (told, pass) = run_program(
+            rt,
+            self.alloc,
+            crew,
+            gate,
+            &self.tables,
+            &self.program,
+            &self.consts,
+            &self.grid,
+            pass,
+        );
+        self.commits += 1;
+        self.pass = Some(pass);
+        match told {
+            Ok((work, record)) => {
+                self.kept = Some(record);
+                Ok(work)
+            }
+            Err(answer) => Err(answer),
+        }
+    }
+
+    /// How many commits there were, whatever they answered.
+    pub fn commits(&self) -> u64
+        ensures { result ≡ commits_in self.now }
+    {
+        self.commits
+    }
+
+    /// The present grid.
+    pub fn grid(&self) -> &Grid
+        ensures value { result.now ≡ grid_in self.now }
+        ensures sound { IsSettled self.now }
+    {
+        &self.grid
+    }
+
+    /// The program that the engine was opened with.
+    pub fn program(&self) -> &Program
+        ensures value { result.now ≡ (world_in self.now).program }
+        ensures world { world_of result.now (world_in self.now).texts ≡ Some (world_in self.now) }
+    {
+        self.program.program()
+    }
+}

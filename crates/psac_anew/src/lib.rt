@@ -1,0 +1,10 @@
+//! The engine over the shared tables: each commit runs the program from scratch by the tracing run, and keeps the record.
+#![tactic(auto)]
+
+mod anew;
+mod engine;
+mod settle;
+mod store;
+mod trace;
+
+pub use engine::Engine;
