@@ -71,6 +71,3 @@ impl<R: Files> Shelf for DirShelf<'_, R> {
         }
     }
 }
-
-#[cfg(test)]
-mod tests;

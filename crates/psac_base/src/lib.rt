@@ -28,6 +28,3 @@ pub use outside::{Shelf, Sink, Source};
 pub use std_sink::StdSink;
 pub use std_source::StdSource;
 pub use whole::write_whole;
-
-#[cfg(test)]
-mod tests;

@@ -61,6 +61,3 @@ impl<R: Read> Source for StdSource<R> {
         Err(SourceFailed)
     }
 }
-
-#[cfg(test)]
-mod tests;

@@ -1,25 +1,24 @@
-//! Tests of the public calls of the crates below. They stand in a crate of their own, since a crate with tests is proved twice.
+//! Tests of the public calls of the crates below, but for those of the language. They stand in a crate of their own, since a crate
+//! with tests is proved twice.
 #![tactic(auto)]
 
 #[cfg(test)]
-mod check;
+mod base;
+#[cfg(test)]
+mod base_shelf;
+#[cfg(test)]
+mod base_sink;
+#[cfg(test)]
+mod base_source;
 #[cfg(test)]
 mod command;
 #[cfg(test)]
 mod inputs;
 #[cfg(test)]
-mod lang;
-#[cfg(test)]
 mod ops;
 #[cfg(test)]
 mod plain;
 #[cfg(test)]
-mod print;
-#[cfg(test)]
-mod programs;
-#[cfg(test)]
 mod script_commands;
 #[cfg(test)]
 mod script_refusals;
-#[cfg(test)]
-mod tokens;

@@ -1,6 +1,6 @@
 ghost use Rattle.std.specs.Prelude.{◌<◌};
 
-use crate::{
+use psac_base::{
     LineFault, Lines, MemShelf, MemSink, MemSource, Shelf, ShelfFault, Sink, SinkFailed, push_int,
     read_int, write_whole,
 };

@@ -1,5 +1,4 @@
-use super::StdSource;
-use crate::{Source, SourceFailed};
+use psac_base::{Source, SourceFailed, StdSource};
 use std::fs;
 use std::io::{self, ErrorKind, Read};
 use std::test::Fail;
@@ -23,18 +22,15 @@ impl Read for FailsAfterOne {
 }
 
 #[test]
-fn faults_are_the_readers(rt: HostRuntime) -> Result<(), Fail> {
+fn a_source_over_a_reader(rt: HostRuntime) -> Result<(), Fail> {
     let mut into = [0u8; 4];
     let mut source = StdSource::new(FailsAfterOne(0));
     assert_eq!(rt; source.read(&mut into), Ok(1));
-    assert_eq!(rt; (into[0], source.taken, source.faults), (b'a', 1, 0));
+    assert_eq!(rt; into[0], b'a');
     assert_eq!(rt; source.read(&mut into), Err(SourceFailed));
-    assert_eq!(rt; (source.taken, source.faults), (1, 1));
     assert_eq!(rt; source.read(&mut into), Ok(0));
-    assert_eq!(rt; (source.taken, source.faults), (1, 1));
     // A folder can be opened and not be read.
     let mut source = StdSource::new(fs::open(&rt, ".")?);
     assert_eq!(rt; source.read(&mut into), Err(SourceFailed));
-    assert_eq!(rt; (source.taken, source.faults), (0, 1));
     Ok(())
 }

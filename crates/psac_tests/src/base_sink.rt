@@ -1,5 +1,4 @@
-use super::StdSink;
-use crate::{Sink, SinkFailed};
+use psac_base::{Sink, SinkFailed, StdSink};
 use std::fs;
 use std::io::{self, Write};
 use std::test::Fail;
@@ -21,16 +20,13 @@ impl Write for TakesThree {
 }
 
 #[test]
-fn faults_are_the_writers(rt: HostRuntime) -> Result<(), Fail> {
+fn a_sink_over_a_writer(rt: HostRuntime) -> Result<(), Fail> {
     let mut sink = StdSink::new(TakesThree(false));
     assert_eq!(rt; sink.write(b"abcd"), Ok(3));
-    assert_eq!(rt; sink.faults, 0);
     assert_eq!(rt; sink.write(b"d"), Err(SinkFailed));
-    assert_eq!(rt; sink.faults, 1);
     // A device that is always full.
     let full = fs::File::options().write(true).open(&rt, "/dev/full")?;
     let mut sink = StdSink::new(full);
     assert_eq!(rt; sink.write(b"abcd"), Err(SinkFailed));
-    assert_eq!(rt; sink.faults, 1);
     Ok(())
 }
