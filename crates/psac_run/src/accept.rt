@@ -7,7 +7,7 @@ ghost use Rattle.psac_run.specs.Accept.{IsAccepted, MeansLine, Refuses};
 use crate::refusal::{Refusal, refused};
 use psac_check::{CheckFault, Checked, check};
 use psac_lang::{ParseFault, parse};
-use psac_script::{check_line, limit_line, syntax_line};
+use psac_refusals::{check_line, limit_line, syntax_line};
 use std::alloc::Global;
 
 // The refusal of a program that breaks the series rule.

@@ -6,7 +6,7 @@ ghost use Rattle.psac_run.specs.Loads.{Loads, RefusesInput, is_text_name, load_o
 
 use crate::refusal::{Refusal, refused};
 use psac_inputs::{Grid, InputFault, Interner, load_csv, load_lines};
-use psac_script::input_line;
+use psac_refusals::input_line;
 use std::alloc::Global;
 
 const MOST_CELLS: u32 = 65_536;

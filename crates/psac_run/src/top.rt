@@ -16,7 +16,7 @@ use crate::serve::serve;
 use crate::status::{NO_MEMORY, Status};
 use psac_base::{Shelf, ShelfFault, Sink, Source};
 use psac_command::{Mode, Request, read_request};
-use psac_script::usage_line;
+use psac_refusals::usage_line;
 use psac_syntax::Program;
 use std::alloc::Global;
 use std::thread::Threads;

@@ -19,6 +19,6 @@ mod ops;
 #[cfg(test)]
 mod plain;
 #[cfg(test)]
-mod script_commands;
+mod refusals;
 #[cfg(test)]
-mod script_refusals;
+mod script_commands;

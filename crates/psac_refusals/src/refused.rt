@@ -3,10 +3,10 @@ ghost use Rattle.std.specs.Prelude.{◌≡◌, [], IfOk, MatchOption};
 ghost use Rattle.psac_report.specs.Refused.{usage_line, syntax_line, limit_line, breach_line, program_line, input_line, record_line};
 ghost use Rattle.psac_check.specs.Faults.{fault_of};
 
-use crate::text::push_number;
 use psac_base::NoMemory;
 use psac_check::CheckFault;
 use psac_inputs::InputFault;
+use psac_script::push_number;
 use std::alloc::Global;
 
 /// The line that says how the program is called.

@@ -1,5 +1,6 @@
 use psac_inputs::InputFault;
-use psac_script::{input_line, limit_line, push_count, syntax_line, usage_line};
+use psac_refusals::{input_line, limit_line, syntax_line, usage_line};
+use psac_script::push_count;
 use std::test::Fail;
 
 #[test]

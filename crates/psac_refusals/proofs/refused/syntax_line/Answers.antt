@@ -2,7 +2,7 @@ use Rattle.std.proofs.Common.{◌≡◌, ◌++◌, ◌∙◌, ap, codes, rules}
 use Rattle.std.specs.Fmt.{decimal}
 use Rattle.std.proofs.lemmas.Result.{IfOk-weaker}
 use Rattle.psac_report.specs.Refused.{program_line}
-use Rattle.psac_script.proofs.refused.syntax_line.Goals as goal
+use Rattle.psac_refusals.proofs.refused.syntax_line.Goals as goal
 
 pub returns : goal.returns
 returns c =
