@@ -53,7 +53,12 @@ COMMANDS = {
         "show",
     ),
     "quit": Command("quit", "ends the session", "Ctrl-D does the same.", "quit"),
-    "tree": Command("tree", "shows the size of the record", "The record is what a run leaves to be repaired.", "tree"),
+    "tree": Command(
+        "tree",
+        "shows the size of the record of the last commit",
+        "The record is what a run leaves: S nodes of sequence, P parallel ones, R read\nblocks, so many modifiables and reads. none where no run is kept.",
+        "tree",
+    ),
     "hold": Command(
         "hold H out I",
         "holds a modifiable at place H",
@@ -64,7 +69,7 @@ COMMANDS = {
     "held": Command("held H", "shows what is held at place H", "See hold.", rf"held {_NUMBER}"),
 }
 # Those that the program refuses today. Help, completion and hints follow this list, and front/pages/script.txt names them.
-LATER = ("tree", "hold", "held")
+LATER = ("hold", "held")
 PRESENT = [it for it in COMMANDS if it not in LATER]
 
 # The commands that the front answers itself.
@@ -118,7 +123,7 @@ def overview():
 
 def later(name):
     """That a command isn't there yet."""
-    return f"{name} isn't there yet: it comes with the record of a run"
+    return f"{name} isn't there yet: it comes with the repair of a record"
 
 
 def why_refused(line):
