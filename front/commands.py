@@ -53,7 +53,15 @@ COMMANDS = {
         "show",
     ),
     "quit": Command("quit", "ends the session", "Ctrl-D does the same.", "quit"),
-    "tree": Command("tree", "shows the size of the record", "The record is what a run leaves to be repaired.", "tree"),
+    "tree": Command(
+        "tree",
+        "shows the size of the record of the last commit",
+        "S, P and R are its nodes: one S for each if, call, par and read that was run,\n"
+        "one P more for each par, one R more for each read. mods are the\n"
+        "places that new made, links the reads.\n"
+        "none where there was no commit yet, or the last one didn't end well.",
+        "tree",
+    ),
     "hold": Command(
         "hold H out I",
         "holds a modifiable at place H",
@@ -64,7 +72,7 @@ COMMANDS = {
     "held": Command("held H", "shows what is held at place H", "See hold.", rf"held {_NUMBER}"),
 }
 # Those that the program refuses today. Help, completion and hints follow this list, and front/pages/script.txt names them.
-LATER = ("tree", "hold", "held")
+LATER = ("hold", "held")
 PRESENT = [it for it in COMMANDS if it not in LATER]
 
 # The commands that the front answers itself.
@@ -118,7 +126,7 @@ def overview():
 
 def later(name):
     """That a command isn't there yet."""
-    return f"{name} isn't there yet: it comes with the record of a run"
+    return f"{name} isn't there yet"
 
 
 def why_refused(line):
