@@ -56,7 +56,10 @@ COMMANDS = {
     "tree": Command(
         "tree",
         "shows the size of the record of the last commit",
-        "The record is what a run leaves: S nodes of sequence, P parallel ones, R read\nblocks, so many modifiables and reads. none where no run is kept.",
+        "S, P and R are its nodes: one S for each if, call, par and read that was run,\n"
+        "one P more for each par, one R more for each read. mods are the\n"
+        "places that new made, links the reads.\n"
+        "none where there was no commit yet, or the last one didn't end well.",
         "tree",
     ),
     "hold": Command(
@@ -123,7 +126,7 @@ def overview():
 
 def later(name):
     """That a command isn't there yet."""
-    return f"{name} isn't there yet: it comes with the repair of a record"
+    return f"{name} isn't there yet"
 
 
 def why_refused(line):

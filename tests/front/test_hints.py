@@ -201,7 +201,6 @@ class Commands(Case):
             ("set  0 0 5", "one space between"),
             ("set -1 0 5", "no sign"),
             ("rows x", "the form is: rows N"),
-            ("tree", "isn't there yet"),
             ("hold 0 out 0", "isn't there yet"),
             ("   ", "a line of blanks"),
         ):
@@ -210,7 +209,8 @@ class Commands(Case):
     def test_candidates(self):
         self.assertEqual(commands.candidates([], "s"), ["set ", "show"])
         self.assertEqual(commands.candidates([], "commit"), ["commit"])
-        self.assertEqual(commands.candidates([], "t"), [])
+        self.assertEqual(commands.candidates([], "t"), ["tree"])
+        self.assertEqual(commands.candidates([], "x"), [])
         self.assertEqual(commands.candidates(["help"], "c"), ["commit"])
         self.assertEqual(commands.candidates(["autoshow"], ""), ["on", "off"])
         self.assertEqual(commands.candidates(["commit"], ""), [])

@@ -91,7 +91,8 @@ class Session(Prompt):
             ("set 0 0", b"refused form"),
             ("rows 999999999", b"refused range"),
             ("show", b"none"),
-            ("tree", b"refused form"),
+            ("hold 0 out 0", b"refused form"),
+            ("tree", b"none"),
         ):
             lines = self.reply(line).split(b"\r\n")[:-1]
             replies = [it for it in lines if not it.startswith(b"hint:")]
@@ -133,7 +134,7 @@ class Session(Prompt):
         self.reply("rows 1")
         self.assertIn(b"hint:   row 0, column 0: nil, an empty cell", self.reply("commit"))
         self.assertIn(b"hint: there is no command comit; there is commit\r\n", self.reply("comit"))
-        self.assertIn(b"hint: tree isn't there yet", self.reply("tree"))
+        self.assertIn(b"hint: held isn't there yet", self.reply("held 0"))
         self.assertIn(b"there is room for 3 rows", self.reply("rows 4"))
         self.end()
 
@@ -141,10 +142,10 @@ class Session(Prompt):
         self.at_prompt()
         for line in ("help", "?"):
             seen = self.reply(line)
-            for part in (b"set R C FIELD", b"rows N", b"commit", b"show", b"quit", b"autoshow", b"Ctrl-C"):
+            for part in (b"set R C FIELD", b"rows N", b"commit", b"show", b"tree", b"quit", b"autoshow", b"Ctrl-C"):
                 self.assertIn(part, seen)
             self.assertNotIn(b"refused", seen)
-            self.assertNotIn(b"tree", seen)
+            self.assertNotIn(b"hold", seen)
         for line in ("help commit", "? commit"):
             self.assertIn(b"commit: puts what is staged into the grid", self.reply(line))
         self.assertIn(b"There is no command 'comit'. There is commit.", self.reply("help comit"))
@@ -290,9 +291,9 @@ class Keys(Prompt):
         self.at_prompt()
         self.terminal.type(b"\t\t")
         seen = self.terminal.until(PROMPT)
-        for name in (b"autoshow", b"commit", b"help", b"quit", b"rows", b"set", b"show"):
+        for name in (b"autoshow", b"commit", b"help", b"quit", b"rows", b"set", b"show", b"tree"):
             self.assertIn(name, seen)
-        self.assertNotIn(b"tree", seen)
+        self.assertNotIn(b"hold", seen)
         self.terminal.type(b"help se\t\n")
         self.assertIn(b"stages a value", self.terminal.until(PROMPT))
         self.end()

@@ -1,41 +1,35 @@
 -- What a pass has after a run of main's body.
-use Rattle.std.proofs.Common.{◌≡◌, ℕ, suc, zero, pos, ◌+◌, ◌*◌, ◌<◌, ◌≤◌, ◌==◌, Bool, true, false, cond, List, [], ◌∷◌, map, drop, length, Option, Some, None, slice_get, refl, ap, sym, ◌∙◌, subst, inl, inr, ◌⊎◌, arith}
-use Rattle.std.specs.Prelude.{sum_by, option_and_then}
+use Rattle.std.proofs.Common.{◌≡◌, ℕ, pos, ◌+◌, ◌*◌, ◌<◌, ◌≤◌, ◌==◌, cond, List, [], ◌∷◌, length, Option, Some, None, slice_get, refl, ap, sym, ◌∙◌, subst, inl, inr, arith}
 use Rattle.std.proofs.lemmas.Bool.{cases_lt}
 use Rattle.std.proofs.lemmas.List.Sums.{sum_by-cons}
 use Rattle.psac_ops.specs.declared.plain.Handle.{Handle}
 use Rattle.psac_ops.specs.declared.plain.Plain.{Plain}
 use Rattle.psac_ops.specs.declared.plain.Plain.TheVariants as plain
-use Rattle.psac_ops.specs.Value.{Value, nil, bool, int, text, ref, pair}
-use Rattle.psac_ops.specs.Named.{cell_value, value_of, same_handle}
+use Rattle.psac_ops.specs.Value.{Value, nil, bool, int, text}
+use Rattle.psac_ops.specs.Named.{cell_value, value_of}
 use Rattle.psac_slots.specs.Handles.{Member, IsDistinct, slot_times}
-use Rattle.psac_slots.specs.Claiming as claiming
-use Rattle.psac_slots.specs.Claiming.{times}
 use Rattle.psac_slots.specs.declared.view.ClaimView.{ClaimView}
 use Rattle.psac_values.specs.declared.view.OwnedView.{OwnedView}
-use Rattle.psac_values.specs.declared.view.ValueView.{ValueView}
 use Rattle.psac_values.specs.Knowing.{Has}
-use Rattle.psac_readers.specs.Chained.{mods_of}
 use Rattle.psac_fork.specs.declared.tables.Pass.{Pass}
 use Rattle.psac_fork.specs.declared.tables.Tables.{Tables}
 use Rattle.psac_inputs.specs.Grid.{Grid, IsGrid, IsCellValue, cell}
 use Rattle.psac_model.specs.declared.ends.Caps.{Caps}
 use Rattle.psac_model.specs.declared.ends.CapKind.TheVariants as cap
 use Rattle.psac_model.specs.Names.{Name, Input, Rows, held}
-use Rattle.psac_model.specs.Fresh.{cells_heap, grid_heap}
+use Rattle.psac_model.specs.Fresh.{cells_heap}
 use Rattle.psac_naming.specs.Alike.{Alike, Both}
 use Rattle.psac_naming.specs.Naming.{IsNamed}
-use Rattle.psac_laws.proofs.Places.{none_some, nat_is, nat_same, test_or, zero_or}
+use Rattle.psac_laws.proofs.Places.{nat_is, test_or, zero_or}
 use Rattle.psac_plain.specs.Opened.{at_slot, first_output}
-use Rattle.psac_plain.proofs.Cells.{held_cells, slot_below}
+use Rattle.psac_plain.proofs.Cells.{held_cells}
 use Rattle.psac_trace.specs.Rights.{held as held_in, Within, Sees}
 use Rattle.psac_trace.specs.Grown.{Differ, Made, Moves, MoreClaims}
-use Rattle.psac_trace.proofs.Heaps.{handle_by}
 use Rattle.psac_anew.specs.Places.{fixed_slots, base_heap}
-use Rattle.psac_anew.specs.Holding.{value_in, entries, HasGrid, HasFixed}
+use Rattle.psac_anew.specs.Holding.{entries, HasGrid, HasFixed}
 use Rattle.psac_anew.specs.Resting.{IsTop, IsYoung, HasAll, IsCleared}
-use Rattle.psac_anew.proofs.Members.{counted_in, in_counted, entry_of}
-use Rattle.psac_anew.proofs.Holding.{then_is, value_one, Knowing, sees_value}
+use Rattle.psac_anew.proofs.Members.{counted_in, entry_of}
+use Rattle.psac_anew.proofs.Holding.{then_is, value_one, sees_value}
 use Rattle.psac_anew.proofs.Entries.{cell_inside, cell_plain}
 use Rattle.psac_anew.proofs.Starts.{start, named_place, start_both}
 

@@ -1,9 +1,6 @@
 -- A run anew, from the call that runs main's body to what is kept.
-use Rattle.std.proofs.Common.{◌≡◌, ℕ, ◌+◌, ◌<◌, ◌≤◌, ◌^◌, List, [], ◌∷◌, ◌++◌, length, Some, None, Ok, Err, Result, nat_lt, false, refl, ap, sym, ◌∙◌, subst, arith}
+use Rattle.std.proofs.Common.{◌≡◌, ℕ, ◌+◌, ◌<◌, ◌^◌, List, [], ◌∷◌, length, Some, false, refl, ap, sym, ◌∙◌, subst}
 use Rattle.std.specs.Prelude.{option_map}
-use Rattle.std.proofs.lemmas.Bool.Decides.{nat_tests}
-use Rattle.psac_ops.specs.declared.plain.Handle.{Handle}
-use Rattle.psac_ops.specs.Value.{Value}
 use Rattle.psac_ops.specs.Named.{value_of}
 use Rattle.psac_values.specs.declared.view.ValueView.{ValueView}
 use Rattle.psac_fork.specs.declared.tables.Pass.{Pass}
@@ -11,28 +8,21 @@ use Rattle.psac_fork.specs.declared.tables.Tables.{Tables}
 use Rattle.psac_inputs.specs.Grid.{Grid, IsGrid}
 use Rattle.psac_model.specs.declared.ends.Caps.{Caps}
 use Rattle.psac_model.specs.declared.ends.CapKind.{CapKind}
-use Rattle.psac_model.specs.declared.ends.End.{End}
-use Rattle.psac_model.specs.declared.ends.End.TheVariants.{Done, Stop}
-use Rattle.psac_model.specs.declared.ends.Size.{Size}
-use Rattle.psac_model.specs.declared.ends.Work.{Work}
+use Rattle.psac_model.specs.declared.ends.End.TheVariants.{Done}
 use Rattle.psac_model.specs.Names.{Name, Heap}
-use Rattle.psac_model.specs.Tree.{Tree, size_of}
+use Rattle.psac_model.specs.Tree.{size_of}
 use Rattle.psac_model.specs.Run.{Ran}
 use Rattle.psac_model.specs.Plain.{capped}
-use Rattle.psac_model.specs.Work.{anew_work}
-use Rattle.psac_model.specs.Fresh.{World, Outcome, Good, fresh, outcome, judged, ended, over, nodes_of}
+use Rattle.psac_model.specs.Fresh.{World, Good, fresh, outcome, judged, ended, over, nodes_of}
 use Rattle.psac_laws.proofs.Opening.{IsChecked}
-use Rattle.psac_traced.specs.Rec.{writes}
 use Rattle.psac_record.specs.Kept.{Kept, bare, counts}
-use Rattle.psac_trace.specs.Rights.{held, Within, Sees}
-use Rattle.psac_trace.specs.Grown.{Made, made_below}
+use Rattle.psac_trace.specs.Grown.{Made}
 use Rattle.psac_trace.specs.Told as told
 use Rattle.psac_trace.specs.Told.{Ended}
-use Rattle.psac_engine.specs.declared.answer.Answer.{Answer}
 use Rattle.psac_engine.specs.Commit.{Answers, IsCaps}
-use Rattle.psac_anew.specs.Places.{fixed_slots, base_heap, heap_of, run_of}
+use Rattle.psac_anew.specs.Places.{base_heap}
 use Rattle.psac_anew.specs.Holding.{value_in}
-use Rattle.psac_anew.specs.Resting.{HasAll, IsRested, IsCleared}
+use Rattle.psac_anew.specs.Resting.{HasAll}
 use Rattle.psac_anew.specs.Settling.{Settles}
 use Rattle.psac_anew.specs.Tracing.{MainBegins, MainLeaves}
 use Rattle.psac_anew.specs.Running.{MayRun, HasHeap, Shows}
@@ -45,7 +35,7 @@ use Rattle.psac_plain.specs.Opened.{at_slot, first_output}
 use Rattle.psac_anew.proofs.Afters.{all_after, alone_now, few}
 use Rattle.psac_anew.proofs.Shows.{run_is}
 use Rattle.psac_anew.proofs.Uncapped.{uncapped, nodes_small}
-use Rattle.psac_anew.proofs.Settles.{settled_all, settled_rested}
+use Rattle.psac_anew.proofs.Settles.{settled_all}
 use Rattle.psac_anew.proofs.Ends.{answer_of, Tells as TellsOf, told as told_of, base_seen, serial, within, over_is, answered}
 
 judged_good : (kinds : List CapKind) (r : Ran Name Heap) → kinds ≡ [] → r.end ≡ Done → judged kinds r ≡ Good r.tree r.heap

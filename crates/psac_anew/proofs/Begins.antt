@@ -1,18 +1,13 @@
 -- A cleared pass at rest is what a run of main's body begins with.
-use Rattle.std.proofs.Common.{◌≡◌, ℕ, suc, zero, ◌+◌, ◌<◌, ◌≤◌, ◌==◌, true, List, [], ◌∷◌, map, length, cond, Some, None, refl, ap, sym, ◌∙◌, subst, inl, inr, arith}
-use Rattle.std.specs.Prelude.{sum_by}
+use Rattle.std.proofs.Common.{◌≡◌, ℕ, ◌+◌, ◌<◌, ◌==◌, List, [], map, length, None, ap, sym, subst, inl, arith}
 use Rattle.std.proofs.lemmas.Bool.Decides.{nat_tests}
 use Rattle.psac_ops.specs.declared.plain.Handle.{Handle}
-use Rattle.psac_slots.specs.Handles.{Member, slot_times, once_below}
+use Rattle.psac_slots.specs.Handles.{Member, once_below}
 use Rattle.psac_slots.specs.Claiming.{Accounted, times}
 use Rattle.psac_slots.specs.declared.view.ClaimView.{ClaimView}
-use Rattle.psac_values.specs.declared.view.ValueView.{ValueView}
 use Rattle.psac_values.specs.declared.view.KnownView.{KnownView}
-use Rattle.psac_values.specs.Knowing.{Has}
-use Rattle.psac_readers.specs.declared.view.ReadersView.{ReadersView}
 use Rattle.psac_readers.specs.declared.view.SharedView.{SharedView as SetView}
 use Rattle.psac_readers.specs.Chained.{mods_of}
-use Rattle.psac_marks.specs.declared.view.MarksView.{MarksView}
 use Rattle.psac_marks.specs.declared.view.OwnView.{OwnView}
 use Rattle.psac_marks.specs.declared.view.SharedView.{SharedView as NodeView}
 use Rattle.psac_fork.specs.declared.tables.Pass.{Pass}
@@ -30,8 +25,7 @@ use Rattle.psac_trace.specs.Fit.{AtHand, Fit}
 use Rattle.psac_trace.specs.Rights.{Ready}
 use Rattle.psac_trace.specs.Running.{Begins}
 use Rattle.psac_anew.specs.Places.{fixed_slots, base_heap}
-use Rattle.psac_anew.specs.Holding.{HasFixed, IsBare}
-use Rattle.psac_anew.specs.Resting.{HasSets, HasAll, IsRested, IsCleared}
+use Rattle.psac_anew.specs.Resting.{HasAll, IsRested, IsCleared}
 use Rattle.psac_anew.proofs.Members.{counted_in, in_counted}
 use Rattle.psac_anew.proofs.Readies.{first_ready, first_tidy}
 

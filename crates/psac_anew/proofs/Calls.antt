@@ -1,5 +1,5 @@
 -- What the call that runs main's body told, by its result.
-use Rattle.std.proofs.Common.{◌≡◌, ℕ, List, Some, None, Ok, Err, Result, refl, ap, sym, ◌∙◌, subst}
+use Rattle.std.proofs.Common.{◌≡◌, List, Ok, Err, Result, refl, sym, subst}
 use Rattle.psac_ops.specs.declared.plain.TextId.{TextId}
 use Rattle.psac_syntax.specs.declared.program.Func.{Func}
 use Rattle.psac_inputs.specs.Grid.{Grid}

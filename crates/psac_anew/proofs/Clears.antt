@@ -1,5 +1,5 @@
 -- What giving everything back leaves of a pass.
-use Rattle.std.proofs.Common.{◌≡◌, ℕ, suc, zero, pos, ◌+◌, ◌*◌, ◌<◌, ◌≤◌, ◌==◌, Bool, true, false, if◌then◌else◌, cond, ltb, List, [], ◌∷◌, ◌++◌, map, drop, Some, refl, ap, sym, ◌∙◌, subst, inl, inr, arith}
+use Rattle.std.proofs.Common.{◌≡◌, ℕ, suc, zero, pos, ◌+◌, ◌*◌, ◌<◌, ◌==◌, true, if◌then◌else◌, cond, List, [], ◌∷◌, ◌++◌, map, drop, Some, refl, ap, sym, ◌∙◌, subst, inl, inr, arith}
 use Rattle.std.specs.Prelude.{filter, option_and_then}
 use Rattle.std.proofs.lemmas.List.Sums.{sum_by-cons}
 use Rattle.std.proofs.lemmas.Bool.{lt-ltb, ltb-true}
@@ -14,7 +14,6 @@ use Rattle.psac_slots.specs.declared.view.ClaimView.{ClaimView}
 use Rattle.psac_slots.proofs.Pairs.{member_cases, member_filter, member_map}
 use Rattle.psac_values.specs.declared.view.OwnedView.{OwnedView}
 use Rattle.psac_values.specs.Steps.{is_fixed}
-use Rattle.psac_readers.specs.Chained.{mods_of}
 use Rattle.psac_fork.specs.declared.tables.Pass.{Pass}
 use Rattle.psac_reclaim.specs.Owed.{ValuesNone, ReadersNone, MarksNone}
 use Rattle.psac_inputs.specs.Grid.{Grid, cell}

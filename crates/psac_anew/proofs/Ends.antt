@@ -1,8 +1,7 @@
 -- What a run of main's body over a grid tells of the outcome.
-use Rattle.std.proofs.Common.{◌≡◌, ℕ, ◌+◌, ◌<◌, ◌≤◌, List, [], ◌∷◌, ◌++◌, map, length, Contains, Option, Some, None, Ok, Err, Result, refl, ap, sym, ◌∙◌, subst, inl, inr, arith}
+use Rattle.std.proofs.Common.{◌≡◌, ℕ, ◌+◌, ◌<◌, ◌≤◌, List, [], length, Some, None, Ok, Err, Result, ap, sym, ◌∙◌, subst, arith}
 use Rattle.std.proofs.lemmas.List.{length-map}
 use Rattle.psac_ops.specs.declared.plain.Handle.{Handle}
-use Rattle.psac_ops.specs.Named.{same_handle}
 use Rattle.psac_slots.specs.Handles.{Member, IsDistinct}
 use Rattle.psac_slots.specs.Claiming.{Accounted, DrewBelow, times}
 use Rattle.psac_slots.specs.declared.view.ClaimView.{ClaimView}
@@ -13,43 +12,41 @@ use Rattle.psac_inputs.specs.Grid.{Grid, IsGrid}
 use Rattle.psac_model.specs.declared.ends.Caps.{Caps}
 use Rattle.psac_model.specs.declared.ends.CapKind.{CapKind}
 use Rattle.psac_model.specs.declared.ends.CapKind.TheVariants as cap
-use Rattle.psac_model.specs.declared.ends.FaultKind.{FaultKind}
 use Rattle.psac_model.specs.declared.ends.End.{End}
 use Rattle.psac_model.specs.declared.ends.End.TheVariants.{Done, Stop}
 use Rattle.psac_model.specs.declared.ends.Work.{Work}
 use Rattle.psac_model.specs.Names.{Env}
 use Rattle.psac_model.specs.Expression.{Setting}
 use Rattle.psac_model.specs.Tree.{size_of}
-use Rattle.psac_model.specs.Fresh.{World, fresh, levels, outcome, over, nodes_of}
+use Rattle.psac_model.specs.Fresh.{World, fresh, levels, outcome, over}
 use Rattle.psac_model.specs.Work.{anew_work}
 use Rattle.psac_laws.specs.Standing.{params}
 use Rattle.psac_laws.proofs.Opening.{IsChecked}
 use Rattle.psac_plain.specs.Opened.{first_output, output_env, setting_over}
-use Rattle.psac_plain.proofs.Beginning.{begin_linked, begin_unused, begin_settings, begin_envs}
+use Rattle.psac_plain.proofs.Beginning.{begin_unused, begin_settings, begin_envs}
 use Rattle.psac_plain.proofs.Linked.{handles_told}
-use Rattle.psac_traced.specs.Rec.{Rec, tree_of, writes}
+use Rattle.psac_traced.specs.Rec.{writes}
 use Rattle.psac_traced.specs.Traced.{traced}
-use Rattle.psac_traced.specs.Places.{Makes, IsApart, HasName}
-use Rattle.psac_traced.specs.Mending.{made_by}
+use Rattle.psac_traced.specs.Places.{Makes, IsApart}
 use Rattle.psac_traced.specs.Serial.{Serial}
 use Rattle.psac_cut.specs.CutShort.{cut_short}
 use Rattle.psac_cut.specs.Within.{drew, count_of, cap_of}
 use Rattle.psac_cut.proofs.Fresh.{fresh_bound, drew_over}
-use Rattle.psac_record.specs.Kept.{Kept, bare, counts, made_of, nodes_below, links_of}
-use Rattle.psac_trace.specs.Rights.{Heap, held, In, Within, Wider, Sees}
-use Rattle.psac_trace.specs.Grown.{Made, Moves, MoreClaims, made_below, as_own, claims_in, count, Cause, IsFull}
+use Rattle.psac_record.specs.Kept.{Kept, bare, counts, made_of, nodes_below}
+use Rattle.psac_trace.specs.Rights.{Heap, Within, Sees}
+use Rattle.psac_trace.specs.Grown.{Made, MoreClaims, made_below, as_own, claims_in, Cause}
 use Rattle.psac_trace.specs.Told.{Ended, Good, Fault, Other, Told, bared}
 use Rattle.psac_trace.specs.Running.{Leaves}
 use Rattle.psac_trace.proofs.Heaps.{within_fresh}
 use Rattle.psac_engine.specs.declared.answer.Answer.{Answer}
 use Rattle.psac_engine.specs.declared.answer.Answer.TheVariants as answer
 use Rattle.psac_engine.specs.Commit.{Answers}
-use Rattle.psac_anew.specs.Places.{fixed_slots, base_heap, run_of}
+use Rattle.psac_anew.specs.Places.{fixed_slots, base_heap}
 use Rattle.psac_anew.specs.Resting.{HasAll, IsRested, IsCleared}
 use Rattle.psac_anew.specs.Settling.{Settles}
 use Rattle.psac_anew.proofs.Apart.{apart_distinct, makes_member}
 use Rattle.psac_anew.proofs.Starts.{start, one, start_heaps}
-use Rattle.psac_anew.proofs.Shows.{IsRecord, all_named, shows, run_is, size_is, behind_names}
+use Rattle.psac_anew.proofs.Shows.{IsRecord, all_named, shows, size_is, behind_names}
 use Rattle.psac_anew.proofs.Begins.{body_left, ready}
 use Rattle.psac_anew.proofs.Afters.{behind, distinct}
 use Rattle.psac_anew.proofs.Counts.{drawn_long, once_low}

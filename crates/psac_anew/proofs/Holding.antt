@@ -1,19 +1,17 @@
 -- What a pass knows, by the value that it has of a slot.
-use Rattle.std.proofs.Common.{◌≡◌, ℕ, ◌+◌, ◌<◌, ◌≤◌, ◌==◌, true, false, cond, List, [], ◌∷◌, Option, Some, None, refl, ap, sym, ◌∙◌, subst, inl, inr, arith}
+use Rattle.std.proofs.Common.{◌≡◌, ℕ, ◌≤◌, ◌==◌, true, cond, List, [], ◌∷◌, Option, Some, None, refl, ap, sym, ◌∙◌, subst, inl, inr, arith}
 use Rattle.std.specs.Prelude.{option_map, option_and_then}
 use Rattle.psac_ops.specs.declared.plain.Handle.{Handle}
 use Rattle.std.proofs.lemmas.List.Sums.{sum_by-cons}
 use Rattle.psac_ops.specs.declared.plain.Plain.{Plain}
 use Rattle.psac_ops.specs.declared.plain.Plain.TheVariants as plain
-use Rattle.psac_ops.specs.declared.plain.TextId.{TextId}
 use Rattle.psac_ops.specs.Value.{Value, nil, bool, int, text, ref, pair}
 use Rattle.psac_ops.specs.Named.{value_of}
 use Rattle.psac_ops.specs.Words.{of_words}
 use Rattle.psac_slots.specs.Handles.{Member}
 use Rattle.psac_values.specs.declared.view.OwnedView.{OwnedView}
 use Rattle.psac_values.specs.declared.view.ValueView.{ValueView}
-use Rattle.psac_values.specs.declared.view.KnownView.{KnownView}
-use Rattle.psac_values.specs.Knowing.{Has, Knows, all_words}
+use Rattle.psac_values.specs.Knowing.{all_words}
 use Rattle.psac_laws.proofs.Places.{none_some, some_is, nat_is, nat_same, test_or}
 use Rattle.psac_trace.specs.Rights.{Sees}
 use Rattle.psac_anew.specs.Holding.{words_in, all_known, value_in, entries}

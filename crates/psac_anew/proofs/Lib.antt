@@ -23,3 +23,4 @@ pub mod Worlds
 pub mod Stages
 pub mod Engines
 pub mod Opens
+pub mod Showing

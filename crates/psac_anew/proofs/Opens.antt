@@ -1,5 +1,5 @@
 -- The pass of tables that were just made is at rest, and nothing is out.
-use Rattle.std.proofs.Common.{◌≡◌, ℕ, zero, suc, pos, ◌+◌, ◌<◌, ◌≤◌, ◌==◌, Bool, true, false, cond, List, [], ◌∷◌, ◌++◌, Some, None, is_some, refl, ap, sym, ◌∙◌, subst, inl, inr, ⊎_elim, arith}
+use Rattle.std.proofs.Common.{◌≡◌, ℕ, zero, suc, ◌+◌, ◌<◌, ◌≤◌, ◌==◌, Bool, true, false, cond, [], ◌∷◌, Some, None, is_some, refl, ap, sym, ◌∙◌, subst, inl, ⊎_elim, arith}
 use Rattle.std.specs.Option.{ForSome}
 use Rattle.std.proofs.lemmas.Bool.{cases_eq, eq-eqb, lt-ltb, le-ltb}
 use Rattle.std.proofs.lemmas.List.Sums.{sum_by_push}
@@ -29,7 +29,7 @@ use Rattle.psac_inputs.specs.Grid.{Grid}
 use Rattle.psac_model.specs.declared.ends.Caps.{Caps}
 use Rattle.psac_anew.specs.Places.{fixed_slots}
 use Rattle.psac_anew.specs.Holding.{entries, HasGrid, HasFixed, IsBare}
-use Rattle.psac_anew.specs.Resting.{IsTop, IsRewound, IsYoung, HasSets, HasAll, IsRested, IsCleared}
+use Rattle.psac_anew.specs.Resting.{IsTop, IsRewound, IsYoung, HasAll, IsRested, IsCleared}
 use Rattle.psac_anew.specs.Storing.{SameSlots}
 use Rattle.psac_anew.specs.Outputs.{HasOutputs}
 use Rattle.psac_anew.proofs.Engines.{for_some, some_not}

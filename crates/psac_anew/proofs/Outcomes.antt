@@ -1,5 +1,5 @@
 -- Which answers an outcome allows.
-use Rattle.std.proofs.Common.{◌≡◌, ℕ, ◌+◌, ◌≤◌, List, [], ◌∷◌, ◌++◌, nat_lt, false, Contains, Ok, Err, refl, ap, sym, ◌∙◌, arith}
+use Rattle.std.proofs.Common.{◌≡◌, ℕ, ◌≤◌, List, [], ◌∷◌, nat_lt, false, Contains, Ok, Err, refl, arith}
 use Rattle.std.proofs.lemmas.Bool.Decides.{nat_tests}
 use Rattle.psac_inputs.specs.Grid.{Grid}
 use Rattle.psac_model.specs.declared.ends.CapKind.{CapKind}
@@ -14,7 +14,6 @@ use Rattle.psac_model.specs.Tree.{Tree, size_of}
 use Rattle.psac_model.specs.Run.{Ran}
 use Rattle.psac_model.specs.Fresh.{World, Outcome, Full, Fault, Good, fresh, outcome, judged, ended, over, nodes_of}
 use Rattle.psac_model.specs.Work.{anew_work}
-use Rattle.psac_engine.specs.declared.answer.Answer.{Answer}
 use Rattle.psac_engine.specs.declared.answer.Answer.TheVariants as answer
 use Rattle.psac_engine.specs.Commit.{Answers}
 

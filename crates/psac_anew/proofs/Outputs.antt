@@ -1,8 +1,6 @@
 -- The outputs of a record of main's body.
-use Rattle.std.proofs.Common.{◌≡◌, ℕ, suc, zero, ◌+◌, ◌<◌, ◌==◌, ◌&&◌, Bool, true, false, not, List, [], ◌∷◌, ◌++◌, length, Option, Some, None, slice_get, refl, ap, sym, ◌∙◌, subst, inl, inr, arith}
+use Rattle.std.proofs.Common.{◌≡◌, ℕ, suc, zero, ◌+◌, ◌<◌, ◌==◌, ◌&&◌, Bool, true, false, not, List, [], ◌∷◌, ◌++◌, length, Option, Some, None, slice_get, refl, ap, sym, ◌∙◌, subst}
 use Rattle.std.specs.Prelude.{option_map, unwrap_or}
-use Rattle.std.proofs.lemmas.Bool.{cases_eq}
-use Rattle.std.proofs.lemmas.Option.{slice_get_within}
 use Rattle.psac_ops.specs.declared.plain.Handle.{Handle}
 use Rattle.psac_ops.specs.declared.plain.Plain.{Plain}
 use Rattle.psac_ops.specs.Value.{Value, nil, bool, int, text, ref, pair}
@@ -11,21 +9,21 @@ use Rattle.psac_values.specs.declared.view.ValueView.{ValueView}
 use Rattle.psac_inputs.specs.Grid.{Grid, IsGrid}
 use Rattle.psac_model.specs.declared.ends.Shown.TheVariants as shown
 use Rattle.psac_model.specs.declared.ends.End.{End}
-use Rattle.psac_model.specs.Names.{Name, Out, Env, bound, held, same_name}
+use Rattle.psac_model.specs.Names.{Name, Out, bound, held, same_name}
 use Rattle.psac_model.specs.Series.{has}
 use Rattle.psac_model.specs.Fresh.{World, fresh}
-use Rattle.psac_model.specs.Outputs.{shown_of, output_shown}
+use Rattle.psac_model.specs.Outputs.{shown_of}
 use Rattle.psac_naming.specs.Alike.{Alike, Both}
 use Rattle.psac_naming.specs.Naming.{IsNamed}
 use Rattle.psac_naming.proofs.Namings.{named_left, tests_names}
 use Rattle.psac_laws.specs.Standing.{distinct}
 use Rattle.psac_laws.proofs.Opening.{IsChecked}
 use Rattle.psac_laws.proofs.Places.{none_some, some_is, nat_same, not_both}
-use Rattle.psac_laws.proofs.Rules.{or_is, or_left, or_right, not_is}
+use Rattle.psac_laws.proofs.Rules.{or_left, or_right, not_is}
 use Rattle.psac_plain.specs.Opened.{at_slot, first_output, output_env}
 use Rattle.psac_plain.proofs.Linked.{handles_told}
 use Rattle.psac_plain.proofs.Lists.{get_here}
-use Rattle.psac_traced.specs.Rec.{Rec, HeapOf, held_by, writes}
+use Rattle.psac_traced.specs.Rec.{Rec, held_by, writes}
 use Rattle.psac_traced.specs.Serial.{Serial}
 use Rattle.psac_traced.specs.Places.{names}
 use Rattle.psac_traced.proofs.Alike.{held_alike}

@@ -1,26 +1,26 @@
 -- A pass that has the inputs, and may write the outputs, is ready for main's body.
-use Rattle.std.proofs.Common.{◌≡◌, ℕ, suc, zero, pos, ◌+◌, ◌*◌, ◌<◌, ◌≤◌, ◌==◌, true, false, List, [], ◌∷◌, map, length, nat_lt, Option, Some, None, is_some, slice_get, refl, ap, sym, ◌∙◌, subst, arith, inl, inr, ◌⊎◌, add-zero}
+use Rattle.std.proofs.Common.{◌≡◌, ℕ, suc, pos, ◌+◌, ◌*◌, ◌<◌, ◌==◌, true, false, List, [], ◌∷◌, length, Option, Some, None, slice_get, refl, ap, sym, ◌∙◌, subst, arith, inl, inr, add-zero}
 use Rattle.std.proofs.lemmas.Bool.Decides.{nat_tests}
 use Rattle.std.proofs.lemmas.Option.{slice_get_within}
 use Rattle.psac_ops.specs.declared.plain.Handle.{Handle}
 use Rattle.psac_ops.specs.declared.plain.Plain.{Plain}
 use Rattle.psac_ops.specs.declared.plain.Plain.TheVariants as plain
-use Rattle.psac_ops.specs.Value.{Value, int, ref}
-use Rattle.psac_ops.specs.Named.{cell_value, value_of, renamed, same_handle}
+use Rattle.psac_ops.specs.Value.{Value, ref}
+use Rattle.psac_ops.specs.Named.{cell_value, value_of, renamed}
 use Rattle.psac_slots.specs.Handles.{Member}
 use Rattle.psac_values.specs.declared.view.OwnedView.{OwnedView}
 use Rattle.psac_values.specs.declared.view.KnownView.{KnownView}
 use Rattle.psac_values.specs.declared.view.ValueView.{ValueView}
 use Rattle.psac_values.specs.Knowing.{Has}
-use Rattle.psac_inputs.specs.Grid.{Grid, IsGrid, IsCellValue, cell}
-use Rattle.psac_model.specs.Names.{Name, Input, Out, Rows, Env, bind, bound, held}
-use Rattle.psac_model.specs.Fresh.{World, grid_heap, setting}
+use Rattle.psac_inputs.specs.Grid.{Grid, IsGrid, IsCellValue}
+use Rattle.psac_model.specs.Names.{Name, Input, Rows, Env, bind, bound}
+use Rattle.psac_model.specs.Fresh.{World, grid_heap}
 use Rattle.psac_model.specs.Series.{has}
 use Rattle.psac_naming.specs.Alike.{Alike, Both}
 use Rattle.psac_naming.specs.Naming.{IsNamed}
 use Rattle.psac_laws.specs.Standing.{params}
 use Rattle.psac_laws.proofs.Heaps.{IsHeld}
-use Rattle.psac_laws.proofs.Places.{none_some, some_is, not_both, nat_is, test_or}
+use Rattle.psac_laws.proofs.Places.{some_is, not_both, nat_is, test_or}
 use Rattle.psac_laws.proofs.Rules.{or_is, or_not}
 use Rattle.psac_laws.proofs.Opening.{IsChecked, opening_safe}
 use Rattle.psac_plain.specs.Opened.{at_slot, first_output, output_env, setting_over}
@@ -30,7 +30,7 @@ use Rattle.psac_trace.specs.Rights.{Heap, held as held_in, In, Named, Sees, Read
 use Rattle.psac_trace.proofs.Bound.{bound_old, bound_new}
 use Rattle.psac_trace.proofs.Heaps.{not_in, handle_by}
 use Rattle.psac_anew.specs.Places.{base_heap, fixed_slots}
-use Rattle.psac_anew.specs.Holding.{HasGrid, HasFixed, IsBare, entries}
+use Rattle.psac_anew.specs.Holding.{HasGrid, HasFixed, IsBare}
 use Rattle.psac_anew.proofs.Entries.{AllIn, all_inputs, held_from, cell_inside, cell_plain}
 use Rattle.psac_anew.proofs.Holding.{value_sees}
 use Rattle.psac_anew.proofs.Members.{entry_of}

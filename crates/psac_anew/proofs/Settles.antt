@@ -1,9 +1,9 @@
 -- A pass that regained its tables has what it had, and is at rest.
-use Rattle.std.proofs.Common.{◌≡◌, ℕ, ◌+◌, ◌≤◌, ◌==◌, cond, List, [], map, length, refl, ap, sym, ◌∙◌, subst, arith}
+use Rattle.std.proofs.Common.{◌≡◌, ℕ, ◌+◌, ◌≤◌, ◌==◌, cond, List, map, length, ap, sym, subst, arith}
 use Rattle.std.specs.Prelude.{sum_by}
 use Rattle.std.proofs.lemmas.List.{length-map}
 use Rattle.psac_ops.specs.declared.plain.Handle.{Handle}
-use Rattle.psac_slots.specs.Handles.{Member, slot_times, once_below}
+use Rattle.psac_slots.specs.Handles.{once_below}
 use Rattle.psac_slots.specs.Claiming as claiming
 use Rattle.psac_slots.specs.Claiming.{Accounted, times}
 use Rattle.psac_slots.specs.declared.view.ClaimView.{ClaimView}
@@ -13,7 +13,6 @@ use Rattle.psac_readers.specs.declared.view.LinkView.{LinkView}
 use Rattle.psac_readers.specs.declared.view.ReadersView.{ReadersView}
 use Rattle.psac_readers.specs.Chained.{named}
 use Rattle.psac_readers.specs.Steps as readers
-use Rattle.psac_marks.specs.declared.view.OwnView.{OwnView}
 use Rattle.psac_marks.specs.declared.view.MarksView.{MarksView}
 use Rattle.psac_marks.specs.Steps as marks
 use Rattle.psac_fork.specs.declared.tables.Pass.{Pass}
@@ -21,11 +20,8 @@ use Rattle.psac_fork.specs.declared.tables.Tables.{Tables}
 use Rattle.psac_inputs.specs.Grid.{Grid}
 use Rattle.psac_model.specs.declared.ends.Caps.{Caps}
 use Rattle.psac_trace.specs.Grown.{Made, Moves}
-use Rattle.psac_trace.specs.Grown as grown
-use Rattle.psac_model.specs.declared.ends.CapKind.TheVariants as cap
-use Rattle.psac_record.specs.Kept.{Stands}
 use Rattle.psac_anew.specs.Places.{fixed_slots}
-use Rattle.psac_anew.specs.Resting.{IsTop, IsRewound, IsYoung, AllOf, HasAll, IsRested, IsCleared}
+use Rattle.psac_anew.specs.Resting.{IsRewound, IsYoung, AllOf, HasAll, IsRested, IsCleared}
 use Rattle.psac_anew.specs.Settling.{Settles}
 use Rattle.psac_anew.proofs.Clears.{drop_member}
 use Rattle.psac_anew.proofs.Counts.{count_most, sum_ones, sum_map}

@@ -1,5 +1,5 @@
 -- A record of main's body over the inputs shows the fresh run.
-use Rattle.std.proofs.Common.{◌≡◌, ℕ, ◌+◌, ◌<◌, ◌≤◌, List, [], ◌∷◌, ◌++◌, length, Some, pos, refl, ap, sym, ◌∙◌, subst, arith, length-append}
+use Rattle.std.proofs.Common.{◌≡◌, ℕ, ◌≤◌, List, [], ◌∷◌, ◌++◌, length, Some, pos, refl, ap, sym, ◌∙◌, arith, length-append}
 use Rattle.psac_ops.specs.declared.plain.Handle.{Handle}
 use Rattle.psac_ops.specs.Value.{int}
 use Rattle.psac_ops.specs.Named.{same_handle}
@@ -22,7 +22,7 @@ use Rattle.psac_traced.proofs.Alike.{tree_image, reads_image}
 use Rattle.psac_traced.proofs.Has.{name_in_is}
 use Rattle.psac_traced.proofs.Serial.{serial_size}
 use Rattle.psac_traced.proofs.Fresh.{fresh_traced}
-use Rattle.psac_anew.specs.Places.{fixed_slots, opening, base_heap, naming, name_of, heap_of, run_of}
+use Rattle.psac_anew.specs.Places.{fixed_slots, base_heap, name_of, heap_of, run_of}
 use Rattle.psac_anew.proofs.Starts.{start, one, opening_is, start_heaps}
 
 ran_is : (r : Ran Name Heap) (t : Tree Name) (h : Heap) (e : End) → t ≡ r.tree → h ≡ r.heap → e ≡ r.end → record { tree = t; heap = h; end = e } ≡ r

@@ -1,5 +1,5 @@
 -- What a record with nodes and links has is its tree's size.
-use Rattle.std.proofs.Common.{◌≡◌, ℕ, suc, ◌+◌, List, [], ◌∷◌, ◌++◌, map, length, Option, Some, refl, ap, sym, ◌∙◌, arith, length-append}
+use Rattle.std.proofs.Common.{◌≡◌, ◌∷◌, map, length, Option, Some, refl, ◌∙◌, arith, length-append}
 use Rattle.std.proofs.lemmas.List.{length-map}
 use Rattle.psac_ops.specs.declared.plain.Handle.{Handle}
 use Rattle.psac_ops.specs.Value.{Value}
@@ -7,7 +7,6 @@ use Rattle.psac_ops.specs.Named.{value_of}
 use Rattle.psac_record.specs.declared.parts.Seen.{Seen}
 use Rattle.psac_model.specs.Fresh.{nodes_of}
 use Rattle.psac_record.specs.Kept.{Kept, E, A, W, S, P, R, nodes_below, links_of, made_of, counts, stands}
-use Rattle.psac_traced.specs.Mending.{made_by}
 
 pair_of : Seen → Handle × Value Handle
 pair_of s = (s.from, value_of s.value)

@@ -1,16 +1,14 @@
 -- A pass with which a run may begin, after a batch was put in.
-use Rattle.std.proofs.Common.{◌≡◌, ℕ, ◌+◌, List, [], refl, ap, sym, ◌∙◌, subst}
+use Rattle.std.proofs.Common.{◌≡◌, ℕ, ◌+◌, ap, sym, ◌∙◌, subst}
 use Rattle.psac_slots.specs.declared.view.ClaimView.{ClaimView}
-use Rattle.psac_values.specs.declared.view.ValueView.{ValueView}
 use Rattle.psac_fork.specs.declared.tables.Pass.{Pass}
 use Rattle.psac_fork.specs.declared.tables.Tables.{Tables}
-use Rattle.psac_fork.specs.Whole.{IsOf}
-use Rattle.psac_inputs.specs.Grid.{Grid, IsGrid}
+use Rattle.psac_inputs.specs.Grid.{Grid}
 use Rattle.psac_model.specs.declared.ends.Caps.{Caps}
 use Rattle.psac_plain.specs.Opened.{first_output}
 use Rattle.psac_anew.specs.Places.{fixed_slots}
 use Rattle.psac_anew.specs.Holding.{HasGrid, HasFixed, IsBare}
-use Rattle.psac_anew.specs.Resting.{IsTop, IsRewound, IsYoung, HasSets, HasAll, IsRested, IsCleared}
+use Rattle.psac_anew.specs.Resting.{IsTop, IsRewound, IsYoung, HasSets, HasAll}
 use Rattle.psac_anew.specs.Running.{MayRun}
 use Rattle.psac_anew.specs.Storing.{SameSlots}
 use Rattle.psac_anew.proofs.Storing.{fixed_same, bare_same}

@@ -1,11 +1,11 @@
 -- The names of the inputs and outputs, and the heap of inputs over their places.
-use Rattle.std.proofs.Common.{◌≡◌, ℕ, suc, zero, pos, ◌+◌, ◌<◌, true, false, if◌then◌else◌, List, [], ◌∷◌, ◌++◌, map, length, Option, Some, None, refl, ap, sym, ◌∙◌, subst, arith}
+use Rattle.std.proofs.Common.{◌≡◌, ℕ, ◌+◌, if◌then◌else◌, List, [], ◌∷◌, ◌++◌, map, length, Some, refl, ap, sym, ◌∙◌, subst}
 use Rattle.psac_ops.specs.declared.plain.Handle.{Handle}
 use Rattle.psac_ops.specs.declared.plain.Plain.{Plain}
 use Rattle.psac_ops.specs.declared.plain.Plain.TheVariants as plain
-use Rattle.psac_ops.specs.Value.{Value, int}
+use Rattle.psac_ops.specs.Value.{Value}
 use Rattle.psac_ops.specs.Named.{cell_value, renamed, same_handle}
-use Rattle.psac_inputs.specs.Grid.{Grid, IsGrid, cell}
+use Rattle.psac_inputs.specs.Grid.{Grid, IsGrid}
 use Rattle.psac_model.specs.Names.{Name, Input, Out, Rows, Made, Heap, held, same_name}
 use Rattle.psac_model.specs.Fresh.{grid_heap}
 use Rattle.psac_naming.specs.Alike.{Alike, AlikeRead, Both, Each}
@@ -14,7 +14,7 @@ use Rattle.psac_naming.proofs.Namings.{tests_names}
 use Rattle.psac_plain.proofs.Beginning as begin
 use Rattle.psac_plain.proofs.Beginning.{named_by, begun, begin_linked}
 use Rattle.psac_plain.proofs.Linked.{handles_told}
-use Rattle.psac_traced.specs.Rec.{HeapOf, held_by}
+use Rattle.psac_traced.specs.Rec.{held_by}
 use Rattle.psac_traced.specs.Renamed.{Heaps, reads_named}
 use Rattle.psac_traced.proofs.Alike.{held_alike}
 use Rattle.psac_anew.specs.Places.{place_of, opening, base_heap, out_names}

@@ -1,6 +1,6 @@
 -- Values that are stored in fixed slots.
-use Rattle.std.proofs.Common.{◌≡◌, ◌≢◌, ℕ, suc, zero, ℤ, pos, ◌+◌, ◌*◌, ◌<◌, ◌≤◌, ◌/◌, ◌%◌, ◌==◌, true, false, if◌then◌else◌, cond, List, [], ◌∷◌, map, drop, length, Option, Some, None, slice_get, refl, ap, sym, ◌∙◌, subst, inl, inr, ◌⊎◌, arith}
-use Rattle.std.specs.Prelude.{option_and_then, count_by, slice_set}
+use Rattle.std.proofs.Common.{◌≡◌, ℕ, suc, zero, pos, ◌+◌, ◌*◌, ◌<◌, ◌≤◌, ◌/◌, ◌%◌, ◌==◌, true, false, cond, List, [], ◌∷◌, map, drop, length, Some, slice_get, refl, ap, sym, ◌∙◌, subst, inl, inr, arith}
+use Rattle.std.specs.Prelude.{option_and_then, slice_set}
 use Rattle.std.specs.List.{All}
 use Rattle.std.proofs.lemmas.Bool.{eq-eqb, ne_eqb, cases_eq}
 use Rattle.std.proofs.lemmas.List.{drop_more, drop_all}
@@ -15,11 +15,11 @@ use Rattle.psac_values.specs.declared.view.OwnedView.{OwnedView}
 use Rattle.psac_values.specs.declared.view.ValueView.{ValueView}
 use Rattle.psac_values.specs.Knowing.{Has, all_words, three_of, rewritten, wrote}
 use Rattle.psac_inputs.specs.declared.batch.Edit.{Edit}
-use Rattle.psac_inputs.specs.Grid.{Grid, IsGrid, cell, with_cell, row_with}
+use Rattle.psac_inputs.specs.Grid.{Grid, IsGrid, cell, with_cell}
 use Rattle.psac_inputs.specs.Batch.{Batch, GoesInto, IsBatch, with_edits, put_all}
 use Rattle.psac_inputs.proofs.CellWrites.{read, written, read_other, even-written}
 use Rattle.psac_inputs.proofs.Putting.{of_edit}
-use Rattle.psac_laws.proofs.Places.{none_some, some_is, nat_is, nat_same, test_or}
+use Rattle.psac_laws.proofs.Places.{none_some, some_is, nat_is, test_or}
 use Rattle.psac_plain.specs.Opened.{at_slot, first_output}
 use Rattle.psac_plain.proofs.Cells.{slots_apart, slot_below, all_get}
 use Rattle.psac_trace.proofs.Heaps.{handle_by}

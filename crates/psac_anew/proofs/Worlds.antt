@@ -1,5 +1,5 @@
 -- The world of an engine, and the run that it keeps.
-use Rattle.std.proofs.Common.{◌≡◌, ◌∙◌, ◌+◌, ◌≤◌, length, arith, refl, sym, ap, List, [], Option, Some, None, IsSome, IfSome, option_map, unwrap_or}
+use Rattle.std.proofs.Common.{◌≡◌, ◌∙◌, ◌+◌, ◌≤◌, length, arith, refl, sym, ap, List, Option, Some, None, IsSome, option_map, unwrap_or}
 use Rattle.psac_ops.specs.declared.plain.TextId.{TextId}
 use Rattle.psac_syntax.specs.declared.program.Func.{Func}
 use Rattle.psac_syntax.specs.declared.program.Program.{Program}

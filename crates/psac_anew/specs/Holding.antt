@@ -1,5 +1,5 @@
 -- What an engine's pass has of the inputs and outputs. Each fact is one that has at most one proof.
-use Rattle.std.specs.Prelude.{◌≡◌, ℕ, pos, ◌+◌, ◌*◌, ◌<◌, ◌==◌, if◌then◌else◌, cond, List, [], ◌∷◌, Option, Some, None, option_map, option_and_then, is_some, true, count_by}
+use Rattle.std.specs.Prelude.{◌≡◌, ℕ, pos, ◌+◌, ◌*◌, ◌<◌, ◌==◌, if◌then◌else◌, List, [], ◌∷◌, Option, Some, None, option_map, option_and_then, count_by}
 use Rattle.psac_ops.specs.declared.plain.Plain.{Plain}
 use Rattle.psac_ops.specs.declared.plain.Plain.TheVariants.{Int}
 use Rattle.psac_ops.specs.Words.{of_words}
@@ -8,7 +8,6 @@ use Rattle.psac_values.specs.declared.view.OwnedView.{OwnedView}
 use Rattle.psac_values.specs.declared.view.ValueView.{ValueView}
 use Rattle.psac_inputs.specs.Grid.{Grid, cell}
 use Rattle.psac_plain.specs.Opened.{first_output}
-use Rattle.psac_anew.specs.Places.{fixed_slots}
 
 -- what a pass knows of the words of a slot that it may write; the first entry of the slot counts
 abbrev pub words_in : ℕ → List OwnedView → Option (List (Option ℕ))

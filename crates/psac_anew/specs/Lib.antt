@@ -7,4 +7,5 @@ pub mod Tracing
 pub mod Running
 pub mod Answering
 pub mod Outputs
+pub mod Showing
 pub mod Engine

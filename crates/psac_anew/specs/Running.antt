@@ -1,7 +1,6 @@
 -- A run anew: what it begins with, and what it leaves.
-use Rattle.std.specs.Prelude.{◌≡◌, ℕ, ◌+◌, ◌<◌, length, option_map, Some, Result, Ok, Err}
+use Rattle.std.specs.Prelude.{◌≡◌, ℕ, ◌+◌, length, option_map, Some, Result, Ok, Err}
 use Rattle.psac_ops.specs.declared.plain.Handle.{Handle}
-use Rattle.psac_ops.specs.declared.plain.TextId.{TextId}
 use Rattle.psac_ops.specs.Value.{Value}
 use Rattle.psac_ops.specs.Named.{same_handle, value_of}
 use Rattle.psac_values.specs.declared.view.ValueView.{ValueView}
@@ -12,11 +11,9 @@ use Rattle.psac_inputs.specs.Grid.{Grid}
 use Rattle.psac_model.specs.declared.ends.Caps.{Caps}
 use Rattle.psac_model.specs.declared.ends.Work.{Work}
 use Rattle.psac_model.specs.Fresh.{World, Good, fresh, outcome}
-use Rattle.psac_model.specs.Work.{anew_work}
 use Rattle.psac_traced.specs.Rec.{Rec, held_by}
 use Rattle.psac_record.specs.declared.record.Record.{Record}
-use Rattle.psac_record.specs.Kept.{Kept, bare, counts}
-use Rattle.psac_record.specs.Shown.{kept_of, rec_of}
+use Rattle.psac_record.specs.Shown.{rec_of}
 use Rattle.psac_engine.specs.declared.answer.Answer.{Answer}
 use Rattle.psac_engine.specs.Commit.{Answers}
 use Rattle.psac_anew.specs.Places.{fixed_slots, heap_of, run_of}

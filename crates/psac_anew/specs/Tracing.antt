@@ -1,5 +1,5 @@
 -- A run of main's body over a grid, on a pass.
-use Rattle.std.specs.Prelude.{◌≡◌, ℕ, List, [], length, None, Result, Ok, Err}
+use Rattle.std.specs.Prelude.{List, [], length, None}
 use Rattle.psac_ops.specs.declared.plain.Handle.{Handle}
 use Rattle.psac_ops.specs.declared.plain.TextId.{TextId}
 use Rattle.psac_syntax.specs.declared.program.Func.{Func}

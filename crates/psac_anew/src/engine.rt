@@ -1,5 +1,5 @@
 // An engine, and its commits.
-ghost use Rattle.std.specs.Prelude.{◌≡◌, ◌+◌, ◌*◌, [], true, false, is_some, length, IsSome};
+ghost use Rattle.std.specs.Prelude.{◌≡◌, ◌+◌, ◌*◌, [], true, false, is_some, length, option_map, IsSome};
 ghost use Rattle.std.specs.Option.{ForSome};
 ghost use Rattle.psac_inputs.specs.Batch.{empty_batch, put_all, GoesInto};
 ghost use Rattle.psac_model.specs.declared.ends.End.TheVariants.{Done};
@@ -15,13 +15,14 @@ ghost use Rattle.psac_engine.specs.Sound.{fresh_over, world_with};
 
 use crate::anew::{outputs_of, run_program};
 use crate::settle::emptied;
+use crate::show::show_slots;
 use crate::store::{put_grid, staged};
 use psac_base::NoMemory;
 use psac_check::Checked;
 use psac_engine::Answer;
 use psac_fork::{Crew, Gate, Pass, Tables};
 use psac_inputs::{Batch, Grid};
-use psac_model::{Caps, Work};
+use psac_model::{Caps, Shown, Size, Work};
 use psac_ops::TextId;
 use psac_record::Record;
 use psac_syntax::Program;
@@ -58,7 +59,9 @@ pub struct Engine {
 
 impl Engine {
     ghost use Rattle.std.specs.Prelude.{◌+◌, ◌<◌, IfOk, Some};
+    ghost use Rattle.psac_model.specs.Tree.{size_of};
     ghost use Rattle.psac_model.specs.Fresh.{outcome, world_of};
+    ghost use Rattle.psac_model.specs.Outputs.{outputs_from};
     ghost use Rattle.psac_engine.specs.Commit.{Answers, kept_after, most_commits};
     ghost use Rattle.psac_anew.specs.Engine.{IsOpened, IsSettled, caps_in, commits_in, grid_in, kept_in, world_in};
 
@@ -166,5 +169,47 @@ impl Engine {
         ensures world { world_of result.now (world_in self.now).texts ≡ Some (world_in self.now) }
     {
         self.program.program()
+    }
+
+    /// What is shown of main's outputs, in its order; `None` exactly where no run is kept. The engine holds what it held.
+    pub fn shown(&mut self) -> Result<Option<Vec<Shown>>, NoMemory>
+        ensures shown { IfOk result (λ told. option_map (λ values. values.items) told
+            ≡ option_map (λ r. outputs_from r.heap 0 (world_in self.old).main.dests) (kept_in self.old)) }
+        ensures kept { kept_in self.new ≡ kept_in self.old }
+        ensures grid { grid_in self.new ≡ grid_in self.old }
+        ensures commits { commits_in self.new ≡ commits_in self.old }
+        ensures world { world_in self.new ≡ world_in self.old }
+        ensures caps { caps_in self.new ≡ caps_in self.old }
+    {
+        if self.kept.is_none() {
+            return Ok(None);
+        }
+        let outs = outputs_of(&self.program);
+        let first = self.grid.room() * self.grid.cols();
+        let Some(mut pass) = self.pass.take() else {
+            unreachable!()
+        };
+        let told = show_slots(
+            self.alloc,
+            &self.tables.values,
+            &mut pass.values,
+            first,
+            outs,
+        );
+        self.pass = Some(pass);
+        match told {
+            Ok(values) => Ok(Some(values)),
+            Err(NoMemory) => Err(NoMemory),
+        }
+    }
+
+    /// The size of the record that is kept; `None` exactly where none is.
+    pub fn size(&self) -> Option<Size>
+        ensures { result ≡ option_map (λ r. size_of r.tree) (kept_in self.now) }
+    {
+        match &self.kept {
+            Some(record) => Some(record.size()),
+            None => None,
+        }
     }
 }

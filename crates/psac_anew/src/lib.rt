@@ -4,6 +4,7 @@
 mod anew;
 mod engine;
 mod settle;
+mod show;
 mod store;
 mod trace;
 

@@ -1,6 +1,6 @@
 // What is asked for.
 ghost use Rattle.std.specs.Prelude.{◌≡◌, IfOk, IfSome, option_map, map, string_bytes};
-ghost use Rattle.psac_command.specs.Asked.{AreCaps, asked, asked_by, caps_of, mode_of, settings_of};
+ghost use Rattle.psac_command.specs.Asked.{AreCaps, IsIn, asked, asked_by, caps_of, mode_of, settings_of, workers};
 ghost use Rattle.psac_command.specs.Views.{request_view, words_view};
 
 use crate::setting::{Bounds, read_setting};
@@ -94,6 +94,7 @@ fn read_caps(words: &Words<'_>) -> Option<Caps>
 fn read_settings(words: &Words<'_>) -> Option<Settings>
     ensures value { result ≡ settings_of (words_view words.now) }
     ensures within { IfSome result (λ s. AreCaps s.caps) }
+    ensures workers { IfSome result (λ s. IsIn workers s.workers) }
 {
     Some(Settings {
         workers: read_setting(WORKERS, words.workers)?,
@@ -105,6 +106,7 @@ fn read_settings(words: &Words<'_>) -> Option<Settings>
 fn read_texts<'a>(words: &Words<'a>) -> Option<Request<'a>>
     ensures value { option_map request_view result ≡ asked_by (words_view words.now) }
     ensures within { IfSome result (λ r. AreCaps r.settings.caps) }
+    ensures workers { IfSome result (λ r. IsIn workers r.settings.workers) }
 {
     Some(Request {
         mode: read_mode(words.mode?)?,
@@ -119,6 +121,7 @@ fn read_texts<'a>(words: &Words<'a>) -> Option<Request<'a>>
 pub fn read_request<'a>(alloc: Global, words: &'a [String]) -> Result<Option<Request<'a>>, NoMemory>
     ensures asked { IfOk result (λ found. option_map request_view found ≡ asked (map string_bytes words.now)) }
     ensures within { IfOk result (λ found. IfSome found (λ r. AreCaps r.settings.caps)) }
+    ensures workers { IfOk result (λ found. IfSome found (λ r. IsIn workers r.settings.workers)) }
 {
     match read_words(alloc, words)? {
         Some(texts) => Ok(read_texts(&texts)),

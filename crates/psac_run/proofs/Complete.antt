@@ -1,13 +1,12 @@
 -- Where all is accepted and nothing failed, the report is written, or the script is too long, or memory is wanting.
-use Rattle.std.proofs.Common.{◌≡◌, ◌⊎◌, inl, inr, refl, sym, ap, ◌∙◌, subst, arith, ℕ, List, Option, Some, None, Result, Ok, Err}
+use Rattle.std.proofs.Common.{◌≡◌, ◌⊎◌, inl, inr, sym, ap, ◌∙◌, subst, arith, ℕ, List, Option, Some, None, Result, Ok, Err}
 use Rattle.psac_base.specs.Outside.{IsFile}
 use Rattle.psac_syntax.specs.declared.program.Program.{Program}
-use Rattle.psac_grammar.specs.Language.{IsProgram}
 use Rattle.psac_grammar.proofs.Whole.{one_program}
 use Rattle.psac_model.specs.Series.{Fault, meets}
 use Rattle.psac_command.specs.Asked.{Asked}
 use Rattle.psac_run.specs.Accept.{Breach, IsAccepted, Limit, Refuses, Syntax}
-use Rattle.psac_run.specs.Answer.{Answers, AreAccepted, Files, HasPart, HasText, InputRefused, IsInputFile, IsProgramFile, IsStatus, ProgramRefused, Reported, Usage, Words, Wrote}
+use Rattle.psac_run.specs.Answer.{Answers, AreAccepted, Files, HasText, InputRefused, IsInputFile, IsStatus, ProgramRefused, Reported, Usage, Words, Wrote}
 
 same_asked : (a b : Asked) → Some a ≡ Some b → a ≡ b
 same_asked a b e = cc

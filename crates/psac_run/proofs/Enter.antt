@@ -1,5 +1,5 @@
 -- The texts of a program, one more at a time.
-use Rattle.std.proofs.Common.{◌≡◌, ◌∙◌, ℕ, suc, ◌+◌, ◌<◌, List, [], ◌∷◌, ◌++◌, length, take, get_or, Result, Ok, Err, ap, ap₂, sym, refl, subst, arith}
+use Rattle.std.proofs.Common.{◌≡◌, ◌∙◌, ℕ, suc, ◌+◌, ◌<◌, List, [], ◌∷◌, ◌++◌, length, take, get_or, Result, Ok, Err, ap, sym, arith}
 use Rattle.std.proofs.Math.Seq.{take-suc}
 use Rattle.psac_ops.specs.declared.plain.TextId.{TextId}
 use Rattle.psac_ops.specs.Table.{◌>>=◌}

@@ -1,5 +1,5 @@
 -- The lines of refusals.
-use Rattle.std.proofs.Common.{◌≡◌, ◌⊎◌, inl, inr, ◌∙◌, ℕ, List, [], Option, Some, None, Result, Ok, Err, Vec, Global, IfOk, MatchResult, IfSome, MatchOption, subst, sym, refl}
+use Rattle.std.proofs.Common.{◌≡◌, ◌⊎◌, inl, inr, ℕ, List, [], Option, Some, None, Result, Ok, Err, Vec, Global, IfOk, MatchResult, IfSome, MatchOption, subst, sym, refl}
 use Rattle.psac_base.specs.declared.fault.NoMemory.{NoMemory}
 use Rattle.psac_syntax.specs.declared.program.Program.{Program}
 use Rattle.psac_grammar.specs.Language.{IsProgram}

@@ -1,11 +1,11 @@
 -- The whole of a text, and nothing of it, as first parts.
-use Rattle.std.proofs.Common.{◌≡◌, ◌⊎◌, inl, inr, ℕ, ◌≤◌, List, [], length, take, Option, Some, None, refl, sym, arith, subst}
+use Rattle.std.proofs.Common.{◌≡◌, ◌⊎◌, inl, inr, ℕ, List, [], length, Option, Some, None, refl, sym, arith, subst}
 use Rattle.std.proofs.lemmas.List.{append-nil, take_all}
 use Rattle.psac_base.specs.Outside.{Appended, AppendedPart}
 use Rattle.psac_inputs.specs.Texts.{Texts}
 use Rattle.psac_command.specs.declared.request.Mode.{Mode}
 use Rattle.psac_command.specs.declared.request.Mode.TheVariants.{Once}
-use Rattle.psac_engine.specs.declared.engine.Engine.{Engine}
+use Rattle.psac_anew.specs.declared.engine.Engine.{Engine}
 use Rattle.psac_session.specs.Answered.{IsScript}
 use Rattle.psac_run.specs.Served.{Served, ServedPart, report_in}
 

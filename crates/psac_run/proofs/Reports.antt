@@ -1,7 +1,7 @@
 -- What is done with an engine, as a report over the program and the input that opened it.
-use Rattle.std.proofs.Common.{◌≡◌, ◌⊎◌, inl, inr, ◌≢◌, ℕ, ◌≤◌, List, [], Option, Some, None, option_map, refl, sym, ap, subst, ◌∙◌, arith}
+use Rattle.std.proofs.Common.{◌≡◌, ◌⊎◌, inl, inr, ℕ, ◌≤◌, List, Option, Some, None, option_map, refl, ◌∙◌, arith}
 use Rattle.psac_base.specs.Feeds.{lines_of}
-use Rattle.psac_base.specs.Outside.{Appended, AppendedPart, IsFile}
+use Rattle.psac_base.specs.Outside.{IsFile}
 use Rattle.psac_syntax.specs.declared.program.Program.{Program}
 use Rattle.psac_inputs.specs.Batch.{empty_batch, put_all}
 use Rattle.psac_inputs.specs.Grid.{Grid}
@@ -16,14 +16,14 @@ use Rattle.psac_report.specs.First.{first_report, first_step, replies_by}
 use Rattle.psac_command.specs.declared.request.Mode.{Mode}
 use Rattle.psac_command.specs.declared.request.Mode.TheVariants.{Once, Session}
 use Rattle.psac_command.specs.Asked.{Asked}
-use Rattle.psac_engine.specs.declared.engine.Engine.{Engine}
-use Rattle.psac_engine.specs.Engine.{IsOpened, caps_in, grid_in, kept_in, world_in}
+use Rattle.psac_anew.specs.declared.engine.Engine.{Engine}
+use Rattle.psac_anew.specs.Engine.{IsOpened, caps_in, grid_in, kept_in, world_in}
 use Rattle.psac_session.specs.State.{kept_of, no_places}
 use Rattle.psac_session.specs.Answered.{Answer, answer_of}
 use Rattle.psac_run.specs.declared.open.Opened.{Opened}
 use Rattle.psac_run.specs.Served.{IsServed, Served, ServedPart, report_in}
 use Rattle.psac_run.specs.Views.{Holds}
-use Rattle.psac_run.specs.Answer.{Files, HasPart, HasProgram, HasText, Held, Reported, Wrote, WrotePart, WroteSome, answers_of, report_of}
+use Rattle.psac_run.specs.Answer.{Files, HasProgram, HasText, Held, Reported, Wrote, WrotePart, answers_of, report_of}
 
 answers_with : (w1 w : World) (c1 c : Caps) (g1 g : Grid) (kept : Option (Ran Name Heap)) (texts : Texts) (lines : List (List ℕ)) → w1 ≡ w → c1 ≡ c → g1 ≡ g → kept ≡ None
     → replies_by w1 (first_step w1 c1) lines (record { grid = g1; texts = texts; kept = option_map kept_of kept; staged = put_all (empty_batch g1) g1; places = no_places })

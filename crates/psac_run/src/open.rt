@@ -1,6 +1,5 @@
 // What a program and an input open.
-ghost use Rattle.std.specs.Prelude.{IfOk, IfErr, IsSome};
-ghost use Rattle.psac_model.specs.Fresh.{main_of};
+ghost use Rattle.std.specs.Prelude.{IfOk, IfErr};
 ghost use Rattle.psac_command.specs.Asked.{AreCaps};
 ghost use Rattle.psac_run.specs.Accept.{MeansLine};
 ghost use Rattle.psac_run.specs.Opens.{RefusesBeside};
@@ -9,10 +8,10 @@ ghost use Rattle.psac_run.specs.Views.{Holds};
 use crate::input::take_input;
 use crate::refusal::Refusal;
 use crate::texts::enter_texts;
+use psac_anew::Engine;
+use psac_check::Checked;
 use psac_command::Settings;
-use psac_engine::Engine;
 use psac_inputs::Interner;
-use psac_syntax::Program;
 use std::alloc::Global;
 
 /// An engine in which nothing has run, and the texts of its program and of its grid.
@@ -26,18 +25,17 @@ pub struct Opened {
 /// its first faulty record.
 pub fn open(
     alloc: Global,
-    program: Program,
+    program: Checked,
     name: &str,
     bytes: &[u8],
     settings: &Settings,
 ) -> Result<Opened, Refusal>
-    requires main { IsSome (main_of program) }
     requires caps { AreCaps settings.now.caps }
     ensures opened { IfOk result (Holds program name.now bytes.now settings.now.rows settings.now.caps) }
     ensures refused { IfErr result (MeansLine (RefusesBeside program name.now bytes.now)) }
 {
     let mut texts = Interner::new(alloc)?;
-    let consts = enter_texts(alloc, program.texts.as_slice(), &mut texts)?;
+    let consts = enter_texts(alloc, program.program().texts.as_slice(), &mut texts)?;
     let grid = take_input(alloc, name, bytes, settings.rows, &mut texts)?;
     let engine = Engine::open(alloc, program, consts, grid, settings.caps)?;
     Ok(Opened { engine, texts })

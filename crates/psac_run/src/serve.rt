@@ -3,7 +3,7 @@ ghost use Rattle.std.specs.Prelude.{◌≡◌, ◌⊎◌, ◌+◌, ◌↔◌, �
 ghost use Rattle.psac_base.specs.Causes.{Rose};
 ghost use Rattle.psac_base.specs.Outside.{Appended};
 ghost use Rattle.psac_command.specs.declared.request.Mode.TheVariants.{Once as Single, Session as Whole};
-ghost use Rattle.psac_engine.specs.Engine.{commits_in};
+ghost use Rattle.psac_anew.specs.Engine.{commits_in};
 ghost use Rattle.psac_session.specs.Answered.{AnsweredLong, AnsweredWhole, ReadOut, answer_of};
 ghost use Rattle.psac_run.specs.Served.{IsServed, Served, ServedPart};
 
@@ -12,11 +12,20 @@ use crate::open::Opened;
 use crate::status::{NO_MEMORY, Status};
 use psac_base::{Sink, Source};
 use psac_command::Mode;
+use psac_fork::{Crew, Gate};
 use psac_session::{SessionEnd, once, session};
 use std::alloc::Global;
+use std::thread::Threads;
 
 // Runs once.
-fn run_once<K: Sink>(alloc: Global, opened: &mut Opened, out: &mut K) -> Status
+fn run_once<Rt: Threads + Sync, K: Sink, G: Gate + Sync>(
+    rt: &Rt,
+    alloc: Global,
+    opened: &mut Opened,
+    crew: &Crew,
+    out: &mut K,
+    gate: &G,
+) -> Status
     requires { commits_in opened.old.engine ≡ 0 }
     ensures status { (result.code ≡ 0) ⊎ (result.code ≡ 7) ⊎ (result.code ≡ 9) }
     ensures whole { result.code ≡ 0 → (told : Option (List ℕ))
@@ -26,7 +35,7 @@ fn run_once<K: Sink>(alloc: Global, opened: &mut Opened, out: &mut K) -> Status
     ensures sink { result.code ≡ 7 → Rose (K.faults out.old) (K.faults out.new) }
     ensures memory { result.code ≡ 9 → Appended (K.held out.old) (K.held out.new) [] }
 {
-    match once(alloc, &mut opened.engine, &opened.texts) {
+    match once(rt, alloc, &mut opened.engine, &opened.texts, crew, gate) {
         Ok(text) => finish(out, &text, 0),
         Err(_) => NO_MEMORY,
     }
@@ -49,11 +58,14 @@ fn status_of(end: SessionEnd) -> Status
 }
 
 // Holds a session.
-fn run_session<S: Source, K: Sink>(
+fn run_session<Rt: Threads + Sync, S: Source, K: Sink, G: Gate + Sync>(
+    rt: &Rt,
     alloc: Global,
     opened: &mut Opened,
+    crew: &Crew,
     script: &mut S,
     out: &mut K,
+    gate: &G,
 ) -> Status
     requires { commits_in opened.old.engine ≡ 0 }
     ensures status { IsServed result.code }
@@ -70,17 +82,29 @@ fn run_session<S: Source, K: Sink>(
     ensures much { result.code ≡ 8 → AnsweredLong (answer_of opened.old.engine opened.old.texts)
         (S.left script.old) (S.left script.new) (K.held out.old) (K.held out.new) }
 {
-    let end = session(alloc, &mut opened.engine, &mut opened.texts, script, out);
+    let end = session(
+        rt,
+        alloc,
+        &mut opened.engine,
+        &mut opened.texts,
+        crew,
+        script,
+        out,
+        gate,
+    );
     status_of(end)
 }
 
 /// Runs once, or holds a session over the script.
-pub fn serve<S: Source, K: Sink>(
+pub fn serve<Rt: Threads + Sync, S: Source, K: Sink, G: Gate + Sync>(
+    rt: &Rt,
     alloc: Global,
     mode: Mode,
     opened: &mut Opened,
+    crew: &Crew,
     script: &mut S,
     out: &mut K,
+    gate: &G,
 ) -> Status
     requires { commits_in opened.old.engine ≡ 0 }
     ensures status { IsServed result.code }
@@ -105,7 +129,7 @@ pub fn serve<S: Source, K: Sink>(
         (S.left script.old) (S.left script.new) (K.held out.old) (K.held out.new) }
 {
     match mode {
-        Mode::Once => run_once(alloc, opened, out),
-        Mode::Session => run_session(alloc, opened, script, out),
+        Mode::Once => run_once(rt, alloc, opened, crew, out, gate),
+        Mode::Session => run_session(rt, alloc, opened, crew, script, out, gate),
     }
 }

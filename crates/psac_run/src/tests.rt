@@ -4,6 +4,7 @@ use crate::accept::accept;
 use crate::psac;
 use crate::texts::enter_texts;
 use psac_base::{MemShelf, MemSink, MemSource};
+use psac_fork::NoGate;
 use psac_inputs::{Interner, load_lines};
 use psac_model::{End, FaultKind, Shown, Size};
 use psac_plain::{PlainEnd, plain_run};
@@ -92,7 +93,15 @@ fn gives<Rt: Threads + Abort + Sync>(
     let Ok(mut out) = MemSink::new(alloc, 1000, 1000, Vec::new(alloc)) else {
         return Err(AllocError);
     };
-    let status = psac(rt, alloc, &words, &mut shelf, &mut script, &mut out);
+    let status = psac(
+        rt,
+        alloc,
+        &words,
+        &mut shelf,
+        &mut script,
+        &mut out,
+        &NoGate,
+    );
     Ok(status.code == code && out.bytes() == Some(text.as_bytes()))
 }
 
@@ -320,7 +329,15 @@ fn failing_writes(rt: HostRuntime) -> Result<(), AllocError> {
         let Ok(mut out) = MemSink::new(alloc, 100, 1, fails) else {
             return Err(AllocError);
         };
-        let status = psac(&rt, alloc, &words, &mut shelf, &mut script, &mut out);
+        let status = psac(
+            &rt,
+            alloc,
+            &words,
+            &mut shelf,
+            &mut script,
+            &mut out,
+            &NoGate,
+        );
         assert_eq!(rt; status.code, 7, "at call {call}");
         assert_eq!(rt; out.bytes(), text.get(..call as usize - 1));
     }

@@ -1,9 +1,8 @@
 // The top call.
-ghost use Rattle.std.specs.Prelude.{◌≡◌, ◌⊎◌, ◌↔◌, ◌+◌, [], None, Some, IfOk, IfErr, IsSome, map, string_bytes};
+ghost use Rattle.std.specs.Prelude.{◌≡◌, ◌⊎◌, ◌↔◌, ◌+◌, [], None, Some, IfOk, IfErr, map, string_bytes};
 ghost use Rattle.psac_base.specs.Causes.{Rose};
 ghost use Rattle.psac_base.specs.Outside.{Appended, IsFile, NoneFalls};
-ghost use Rattle.psac_model.specs.Fresh.{main_of};
-ghost use Rattle.psac_command.specs.Asked.{AreCaps, Asked, asked};
+ghost use Rattle.psac_command.specs.Asked.{AreCaps, Asked, IsIn, asked, workers};
 ghost use Rattle.psac_command.specs.Views.{request_view};
 ghost use Rattle.psac_session.specs.Answered.{AnsweredLong, AnsweredWhole, ReadOut};
 ghost use Rattle.psac_run.specs.Answer.{AreAccepted, HasPart, HasProgram, HasText, Held, IsNoSession, IsStatus, LoadFailed, RoseFor, Wrote, WrotePart, WroteSome};
@@ -15,9 +14,10 @@ use crate::refusal::Refusal;
 use crate::serve::serve;
 use crate::status::{NO_MEMORY, Status};
 use psac_base::{Shelf, ShelfFault, Sink, Source};
+use psac_check::Checked;
 use psac_command::{Mode, Request, read_request};
+use psac_fork::{Crew, Gate};
 use psac_refusals::usage_line;
-use psac_syntax::Program;
 use std::alloc::Global;
 use std::thread::Threads;
 
@@ -43,16 +43,18 @@ fn load_named<F: Shelf>(shelf: &mut F, alloc: Global, name: &str) -> Result<Vec<
 }
 
 // Loads the input of a program that is run, and runs it.
-fn run_program<F: Shelf, S: Source, K: Sink>(
+fn run_program<Rt: Threads + Sync, F: Shelf, S: Source, K: Sink, G: Gate + Sync>(
+    rt: &Rt,
     alloc: Global,
-    program: Program,
+    program: Checked,
     request: &Request<'_>,
     shelf: &mut F,
     script: &mut S,
     out: &mut K,
+    gate: &G,
 ) -> Status
     requires caps { AreCaps request.now.settings.caps }
-    requires main { IsSome (main_of program) }
+    requires workers { IsIn workers request.now.settings.workers }
     requires program { HasProgram (F.files shelf.old) request.now.program.now program }
     ensures status { IsStatus result.code }
     ensures words { (result.code ≡ 2) → ⊥ }
@@ -82,21 +84,36 @@ fn run_program<F: Shelf, S: Source, K: Sink>(
         Err(status) => return status,
     };
     match open(alloc, program, request.input, &bytes, &request.settings) {
-        Ok(mut opened) => serve(alloc, request.mode, &mut opened, script, out),
+        Ok(mut opened) => {
+            let crew = Crew::new(request.settings.workers);
+            serve(
+                rt,
+                alloc,
+                request.mode,
+                &mut opened,
+                &crew,
+                script,
+                out,
+                gate,
+            )
+        }
         Err(Refusal::Line(line)) => finish(out, &line, 5),
         Err(Refusal::NoMemory) => NO_MEMORY,
     }
 }
 
 // Loads a program and its input, and runs it.
-fn run_request<F: Shelf, S: Source, K: Sink>(
+fn run_request<Rt: Threads + Sync, F: Shelf, S: Source, K: Sink, G: Gate + Sync>(
+    rt: &Rt,
     alloc: Global,
     request: &Request<'_>,
     shelf: &mut F,
     script: &mut S,
     out: &mut K,
+    gate: &G,
 ) -> Status
-    requires { AreCaps request.now.settings.caps }
+    requires caps { AreCaps request.now.settings.caps }
+    requires workers { IsIn workers request.now.settings.workers }
     ensures status { IsStatus result.code }
     ensures words { (result.code ≡ 2) → ⊥ }
     ensures answered { HasText result.code → Wrote result.code (F.files shelf.old) (Some (request_view request.now))
@@ -126,20 +143,21 @@ fn run_request<F: Shelf, S: Source, K: Sink>(
         Err(status) => return status,
     };
     match accept(alloc, &bytes) {
-        Ok(checked) => run_program(alloc, checked.into_program(), request, shelf, script, out),
+        Ok(checked) => run_program(rt, alloc, checked, request, shelf, script, out, gate),
         Err(Refusal::Line(line)) => finish(out, &line, 4),
         Err(Refusal::NoMemory) => NO_MEMORY,
     }
 }
 
 /// Does all that the program does, and answers the status.
-pub fn psac<Rt: Threads + Sync, F: Shelf, S: Source, K: Sink>(
-    _rt: &Rt,
+pub fn psac<Rt: Threads + Sync, F: Shelf, S: Source, K: Sink, G: Gate + Sync>(
+    rt: &Rt,
     alloc: Global,
     words: &Vec<String>,
     shelf: &mut F,
     script: &mut S,
     out: &mut K,
+    gate: &G,
 ) -> Status
     ensures status { IsStatus result.code }
     // With a status that has a text, that text was written: with 0 the whole report.
@@ -183,7 +201,7 @@ pub fn psac<Rt: Threads + Sync, F: Shelf, S: Source, K: Sink>(
         → (result.code ≡ 0) ⊎ (result.code ≡ 8) ⊎ (result.code ≡ 9) }
 {
     match read_request(alloc, words.as_slice()) {
-        Ok(Some(request)) => run_request(alloc, &request, shelf, script, out),
+        Ok(Some(request)) => run_request(rt, alloc, &request, shelf, script, out, gate),
         Ok(None) => finish(out, usage_line(), 2),
         Err(_) => NO_MEMORY,
     }

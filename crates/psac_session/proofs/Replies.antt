@@ -1,9 +1,8 @@
 -- The replies to one more line.
-use Rattle.std.proofs.Common.{◌≡◌, ◌∙◌, ℕ, Bool, true, false, List, [], ◌∷◌, ◌++◌, Option, Some, None, refl, ap}
+use Rattle.std.proofs.Common.{◌≡◌, ℕ, true, false, List, [], ◌∷◌, ◌++◌, Option, Some, refl}
 use Rattle.psac_model.specs.Fresh.{World}
 use Rattle.psac_report.specs.Script.{Command, Quit, command_of}
 use Rattle.psac_report.specs.Session.{State, Reply, reply_text}
-use Rattle.psac_report.specs.Report.{written_then}
 use Rattle.psac_report.specs.First.{Step, answered_by, is_quit, quits, replies_by}
 
 -- the text of a reply

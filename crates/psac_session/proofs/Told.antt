@@ -1,5 +1,5 @@
 -- What a line that was carried out tells, and what calls of the outside tell.
-use Rattle.std.proofs.Common.{◌≡◌, ◌∙◌, ℕ, ◌≤◌, ◌<◌, ◌+◌, ◌-◌, ◌⊎◌, inl, inr, Bool, true, false, List, [], Result, Ok, Err, refl, sym, ap, arith, length, OnOk, OnErr}
+use Rattle.std.proofs.Common.{◌≡◌, ℕ, ◌≤◌, ◌<◌, ◌-◌, inl, inr, Bool, true, false, List, [], Result, Ok, Err, refl, arith, length, OnOk, OnErr}
 use Rattle.std.specs.Result.{is_err}
 use Rattle.psac_base.specs.Causes.{Rose}
 use Rattle.psac_base.specs.Lines.{GivesLine}

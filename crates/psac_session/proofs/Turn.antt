@@ -1,22 +1,20 @@
 -- One turn of a session.
-use Rattle.std.proofs.Common.{◌≡◌, ◌∙◌, ℕ, suc, ◌≤◌, ◌<◌, ◌+◌, ◌-◌, ◌||◌, Bool, true, false, List, [], ◌∷◌, ◌++◌, ◌⊎◌, inl, inr, Option, Some, None, length, take, drop, slice_index, get_or, refl, ap, sym, subst, arith, append_assoc, length-append, get_or-take}
+use Rattle.std.proofs.Common.{◌≡◌, ◌∙◌, ℕ, ◌≤◌, ◌<◌, ◌+◌, ◌-◌, Bool, true, false, List, [], ◌∷◌, ◌++◌, ◌⊎◌, inl, inr, Option, Some, None, length, take, drop, slice_index, refl, ap, sym, subst, arith, append_assoc, length-append, get_or-take}
 use Rattle.std.specs.List.{list_any, slice_range}
 use Rattle.std.specs.Io.KnownBytes.{Consumes, IsAtEnd}
-use Rattle.std.proofs.lemmas.List.{append-nil, drop_all, drop_at, drop-take, take-append-le, take-append-drop, take-take, length-take-le}
+use Rattle.std.proofs.lemmas.List.{append-nil, drop_at, drop-take, take-append-le, take-append-drop, take-take, length-take-le}
 use Rattle.std.proofs.lemmas.List.Folds.{list_any-append}
-use Rattle.std.proofs.Math.Seq.{take-append_seam, take-append-add, take-length}
 use Rattle.std.proofs.Math.ListN.{get_or-append}
-use Rattle.psac_base.specs.Feeds.{NoFeed, lines_of, line_text}
-use Rattle.psac_base.specs.Lines.{EndsAtEnd, GivesLast, GivesLine, GivesWhole, Grew, IsEnd, NoFeedBeforePiece}
-use Rattle.psac_base.specs.Outside.{Appended, AppendedPart}
+use Rattle.psac_base.specs.Feeds.{lines_of, line_text}
+use Rattle.psac_base.specs.Lines.{EndsAtEnd, GivesLast, GivesLine, GivesWhole, Grew}
+use Rattle.psac_base.specs.Outside.{Appended}
 use Rattle.psac_base.proofs.Splits.{last_is_last, whole_is_next}
 use Rattle.psac_base.proofs.Wrote.{Appended-append, Appended-nil}
 use Rattle.psac_model.specs.Fresh.{World}
 use Rattle.psac_report.specs.Script.{command_of}
 use Rattle.psac_report.specs.Session.{State}
 use Rattle.psac_report.specs.First.{Step, is_quit, replies_by}
-use Rattle.psac_session.specs.Answered.{Answer, Answered, AnsweredLong, AnsweredPart, AnsweredTo, AnsweredWhole, IsScript, ReadOut}
-use Rattle.psac_session.proofs.Replies.{replies_next, replies_quit, text_of}
+use Rattle.psac_session.proofs.Replies.{replies_next, text_of}
 
 -- no byte, or the byte before this place ends a line
 abbrev pub Behind : List ℕ → ℕ → Type 0

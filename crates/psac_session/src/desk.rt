@@ -9,16 +9,19 @@ ghost use Rattle.psac_report.specs.First.{committed_anew, first_step, is_quit, q
 ghost use Rattle.psac_script.specs.Commands.{command_view};
 ghost use Rattle.psac_script.specs.Replies.{reply_view};
 ghost use Rattle.psac_engine.specs.Commit.{most_commits};
-ghost use Rattle.psac_engine.specs.Engine.{caps_in, commits_in, grid_in, world_in};
+ghost use Rattle.psac_anew.specs.Engine.{caps_in, commits_in, grid_in, world_in};
 ghost use Rattle.psac_session.specs.Replied.{IsReplyTo};
 
-use crate::show::shown_reply;
+use crate::show::{shown_reply, sized_reply};
+use psac_anew::Engine;
 use psac_base::NoMemory;
-use psac_engine::{Answer, Engine};
+use psac_engine::Answer;
+use psac_fork::{Crew, Gate};
 use psac_inputs::{Batch, Interner, TextFault};
 use psac_model::Work;
 use psac_script::{Command, Reply, read_command, reply_text};
 use std::alloc::Global;
+use std::thread::Threads;
 
 /// What a session holds besides its engine and its texts.
 #[derive(Drop)]
@@ -123,7 +126,13 @@ impl Desk {
     }
 
     // Commits what is staged.
-    fn commit(&mut self, engine: &mut Engine) -> Result<Reply, NoMemory>
+    fn commit<Rt: Threads + Sync, G: Gate + Sync>(
+        &mut self,
+        rt: &Rt,
+        engine: &mut Engine,
+        crew: &Crew,
+        gate: &G,
+    ) -> Result<Reply, NoMemory>
         requires goes { GoesInto self.old.batch (grid_in engine.old) }
         requires few { commits_in engine.old < most_commits }
         ensures step { IfOk result (λ reply. (texts : Texts)
@@ -133,16 +142,19 @@ impl Desk {
         ensures world { world_in engine.new ≡ world_in engine.old }
         ensures caps { caps_in engine.new ≡ caps_in engine.old }
     {
-        reply_to(engine.commit(&mut self.batch))
+        reply_to(engine.commit(rt, &mut self.batch, crew, gate))
     }
 
     // Carries out a command.
-    fn carry_out(
+    fn carry_out<Rt: Threads + Sync, G: Gate + Sync>(
         &mut self,
+        rt: &Rt,
         alloc: Global,
         engine: &mut Engine,
         texts: &mut Interner,
+        crew: &Crew,
         command: Command<'_>,
+        gate: &G,
     ) -> Result<Reply, NoMemory>
         requires goes { GoesInto self.old.batch (grid_in engine.old) }
         requires few { commits_in engine.old < most_commits }
@@ -158,10 +170,10 @@ impl Desk {
             Command::Skip => Ok(Reply::Nothing),
             Command::Set { row, col, field } => self.set(engine, texts, row, col, field),
             Command::Rows { count } => self.rows(engine, count),
-            Command::Commit => self.commit(engine),
-            Command::Show => shown_reply(alloc, engine),
-            // What shows or holds a record comes with the record.
-            Command::Tree => Ok(Reply::RefusedForm),
+            Command::Commit => self.commit(rt, engine, crew, gate),
+            Command::Show => shown_reply(engine),
+            Command::Tree => Ok(sized_reply(engine)),
+            // What holds a modifiable isn't there yet.
             Command::HoldOut { .. } => Ok(Reply::RefusedForm),
             Command::HoldRef { .. } => Ok(Reply::RefusedForm),
             Command::HoldFst { .. } => Ok(Reply::RefusedForm),
@@ -172,12 +184,15 @@ impl Desk {
     }
 
     // What is answered to a line that doesn't end the script.
-    fn answer(
+    fn answer<Rt: Threads + Sync, G: Gate + Sync>(
         &mut self,
+        rt: &Rt,
         alloc: Global,
         engine: &mut Engine,
         texts: &mut Interner,
+        crew: &Crew,
         command: Option<Command<'_>>,
+        gate: &G,
     ) -> Result<Reply, NoMemory>
         requires goes { GoesInto self.old.batch (grid_in engine.old) }
         requires few { commits_in engine.old < most_commits }
@@ -190,18 +205,21 @@ impl Desk {
         ensures caps { caps_in engine.new ≡ caps_in engine.old }
     {
         match command {
-            Some(command) => self.carry_out(alloc, engine, texts, command),
+            Some(command) => self.carry_out(rt, alloc, engine, texts, crew, command, gate),
             None => Ok(Reply::RefusedForm),
         }
     }
 
     /// Carries out one line.
-    pub fn one_line(
+    pub fn one_line<Rt: Threads + Sync, G: Gate + Sync>(
         &mut self,
+        rt: &Rt,
         alloc: Global,
         engine: &mut Engine,
         texts: &mut Interner,
+        crew: &Crew,
         line: &[u8],
+        gate: &G,
     ) -> Result<Carried, NoMemory>
         requires goes { GoesInto self.old.batch (grid_in engine.old) }
         requires few { commits_in engine.old < most_commits }
@@ -217,7 +235,7 @@ impl Desk {
         if ends_script(&command) {
             return Ok(Carried::Quit);
         }
-        let reply = self.answer(alloc, engine, texts, command)?;
+        let reply = self.answer(rt, alloc, engine, texts, crew, command, gate)?;
         let text = reply_text(alloc, &reply, engine.program(), texts)?;
         Ok(Carried::Reply(text))
     }

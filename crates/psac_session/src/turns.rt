@@ -1,26 +1,31 @@
 // The loop over the lines of a script.
 ghost use Rattle.std.specs.Prelude.{◌≡◌, ◌+◌, ◌<◌, ◌↔◌};
 ghost use Rattle.psac_base.specs.Causes.{Rose};
-ghost use Rattle.psac_engine.specs.Engine.{commits_in};
+ghost use Rattle.psac_anew.specs.Engine.{commits_in};
 ghost use Rattle.psac_session.specs.Answered.{Answered, AnsweredPart, AnsweredWhole, AnsweredLong, ReadOut, answer_of, most_opened};
 
 use crate::SessionEnd;
 use crate::desk::{Carried, Desk};
+use psac_anew::Engine;
 use psac_base::{LineFault, Lines, Sink, Source, write_whole};
-use psac_engine::Engine;
+use psac_fork::{Crew, Gate};
 use psac_inputs::Interner;
 use std::alloc::Global;
+use std::thread::Threads;
 
 /// Carries out a script, line by line, up to `quit` or its end. A reply that isn't empty is written as one piece,
 /// before the next line is read.
 ///
-/// In this first form every commit runs anew, and `tree`, `hold` and `held` are refused as no commands.
-pub fn session<S: Source, K: Sink>(
+/// In this first form every commit runs anew, and `hold` and `held` are refused as no commands.
+pub fn session<Rt: Threads + Sync, S: Source, K: Sink, G: Gate + Sync>(
+    rt: &Rt,
     alloc: Global,
     engine: &mut Engine,
     texts: &mut Interner,
+    crew: &Crew,
     script: &mut S,
     out: &mut K,
+    gate: &G,
 ) -> SessionEnd
     requires { commits_in engine.old < most_opened }
     // The whole report was written, and the script was read to its end or to `quit`.
@@ -51,7 +56,7 @@ pub fn session<S: Source, K: Sink>(
     let mut line = Vec::new(alloc);
     'turns: loop {
         match lines.next_line(script, &mut line) {
-            Ok(true) => match desk.one_line(alloc, engine, texts, &line) {
+            Ok(true) => match desk.one_line(rt, alloc, engine, texts, crew, &line, gate) {
                 Ok(Carried::Reply(text)) => {
                     if write_whole(out, &text).is_err() {
                         return SessionEnd::SinkFailed;

@@ -1,3 +1,4 @@
+mod full;
 mod outside;
 mod programs;
 mod rows;

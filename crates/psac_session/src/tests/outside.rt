@@ -1,14 +1,15 @@
 use crate::SessionEnd;
-use crate::tests::programs::double;
-use crate::tests::run::{Opening, run};
+use crate::tests::programs::DOUBLE;
+use crate::tests::run::{CAPS, Opening, run};
 use psac_base::{MemSink, MemSource};
 use std::alloc::Global;
 use std::process::Abort;
 use std::test::Fail;
+use std::thread::Threads;
 
 // The call of the source that fails and that of the sink, the script, the end and what is written.
-fn ends(
-    rt: &impl Abort,
+fn ends<Rt: Threads + Abort + Sync>(
+    rt: &Rt,
     alloc: Global,
     fails: (u64, u64),
     script: Vec<u8>,
@@ -19,12 +20,13 @@ fn ends(
         return Err("memory")?;
     };
     let opening = Opening {
-        funcs: double(alloc)?,
+        program: DOUBLE,
         input: "21\n",
         room: 1,
-        nodes: 262_144,
+        caps: CAPS,
+        workers: 1,
     };
-    let end = run(alloc, opening, &mut script, &mut out)?;
+    let end = run(rt, alloc, opening, &mut script, &mut out)?;
     assert_eq!(rt; end, told.0);
     assert_eq!(rt; out.bytes(), Some(told.1.as_bytes()));
     Ok(())

@@ -1,22 +1,23 @@
 use crate::SessionEnd;
-use crate::tests::programs::{copy, double, row_count, sum};
-use crate::tests::run::{Opening, carried};
-use psac_syntax::Func;
+use crate::tests::programs::{COPY, DOUBLE, ROW_COUNT, SUM};
+use crate::tests::run::{CAPS, Opening, carried};
+use psac_model::Caps;
 use std::alloc::Global;
 use std::process::Abort;
 use std::test::Fail;
+use std::thread::Threads;
 
 const ONE: &str = "mode=anew visited=0 rerun=0 inside=1 dropped=0 nodes=2 mods=0 links=1\n";
 
 // A session that ends well writes this.
-fn writes(
-    rt: &impl Abort,
+fn writes<Rt: Threads + Abort + Sync>(
+    rt: &Rt,
     alloc: Global,
     opening: Opening<'_>,
     script: &str,
     report: &[&str],
 ) -> Result<(), Fail> {
-    let (end, written) = carried(alloc, opening, script)?;
+    let (end, written) = carried(rt, alloc, opening, script)?;
     assert_eq!(rt; end, SessionEnd::Done);
     let mut wanted = Vec::new(alloc);
     for text in report {
@@ -26,12 +27,13 @@ fn writes(
     Ok(())
 }
 
-fn over(funcs: Vec<Func>, input: &str) -> Opening<'_> {
+fn over<'a>(program: &'a str, input: &'a str) -> Opening<'a> {
     Opening {
-        funcs,
+        program,
         input,
         room: 4,
-        nodes: 262_144,
+        caps: CAPS,
+        workers: 1,
     }
 }
 
@@ -40,7 +42,7 @@ fn commits_and_shows(rt: HostRuntime) -> Result<(), Fail> {
     let alloc = rt.alloc();
     let script = "show\ncommit\nshow\nset 0 0 5\nshow\ncommit\nshow\nquit\nshow\n";
     let report = ["none\n", ONE, "out = 42\n", "out = 42\n", ONE, "out = 10\n"];
-    writes(&rt, alloc, over(double(alloc)?, "21\n"), script, &report)
+    writes(&rt, alloc, over(DOUBLE, "21\n"), script, &report)
 }
 
 #[test]
@@ -56,7 +58,7 @@ fn fault_and_anew(rt: HostRuntime) -> Result<(), Fail> {
         ONE,
         "out = 2\n",
     ];
-    let opening = over(double(alloc)?, "4611686018427387903\n");
+    let opening = over(DOUBLE, "4611686018427387903\n");
     writes(&rt, alloc, opening, script, &report)
 }
 
@@ -65,9 +67,9 @@ fn texts(rt: HostRuntime) -> Result<(), Fail> {
     let alloc = rt.alloc();
     let script = "set 0 0 \ncommit\nshow\nset 0 0 a \"b\ncommit\nshow\n";
     let report = [ONE, "out = \"\"\n", ONE, "out = \"a \\\"b\"\n"];
-    writes(&rt, alloc, over(copy(alloc)?, "7\n"), script, &report)?;
+    writes(&rt, alloc, over(COPY, "7\n"), script, &report)?;
     let report = ["fault kind line 3\n", "none\n"];
-    let opening = over(double(alloc)?, "1\n");
+    let opening = over(DOUBLE, "1\n");
     writes(&rt, alloc, opening, "set 0 0 \ncommit\nshow\n", &report)
 }
 
@@ -75,11 +77,11 @@ fn texts(rt: HostRuntime) -> Result<(), Fail> {
 fn refusals(rt: HostRuntime) -> Result<(), Fail> {
     let alloc = rt.alloc();
     let script =
-        "# a remark\n\nset 1 0 1\nset 0 1 1\nrows 5\nset 0 0\ntree\nhold 0 out 0\nheld 0\ncommit \r\nsho";
+        "# a remark\n\nset 1 0 1\nset 0 1 1\nrows 5\nset 0 0\nhold 0 out 0\nheld 0\ncommit \r\nsho";
     let form = "refused form\n";
     let range = "refused range\n";
-    let report = [range, range, range, form, form, form, form, form, form];
-    writes(&rt, alloc, over(double(alloc)?, "21\n"), script, &report)
+    let report = [range, range, range, form, form, form, form, form];
+    writes(&rt, alloc, over(DOUBLE, "21\n"), script, &report)
 }
 
 #[test]
@@ -97,13 +99,7 @@ fn rows(rt: HostRuntime) -> Result<(), Fail> {
         ONE,
         "out = 1\n",
     ];
-    writes(
-        &rt,
-        alloc,
-        over(row_count(alloc)?, "1\n2\n"),
-        script,
-        &report,
-    )
+    writes(&rt, alloc, over(ROW_COUNT, "1\n2\n"), script, &report)
 }
 
 #[test]
@@ -111,12 +107,20 @@ fn caps(rt: HostRuntime) -> Result<(), Fail> {
     let alloc = rt.alloc();
     let column = "1\n2\n3\n4\n";
     let work = "mode=anew visited=0 rerun=0 inside=7 dropped=0 nodes=34 mods=6 links=10\n";
-    let script = "commit\nshow\n";
-    let report = [work, "out = 10\n"];
-    writes(&rt, alloc, over(sum(alloc)?, column), script, &report)?;
+    let script = "tree\ncommit\ntree\nshow\n";
+    let size = "S=24 P=3 R=7 mods=6 links=10\n";
+    let report = ["none\n", work, size, "out = 10\n"];
+    for workers in [1, 2, 8] {
+        let crew = Opening {
+            workers,
+            ..over(SUM, column)
+        };
+        writes(&rt, alloc, crew, script, &report)?;
+    }
     let few = Opening {
-        nodes: 5,
-        ..over(sum(alloc)?, column)
+        caps: Caps { nodes: 5, ..CAPS },
+        ..over(SUM, column)
     };
-    writes(&rt, alloc, few, script, &["full\n", "none\n"])
+    let report = ["none\n", "full\n", "none\n", "none\n"];
+    writes(&rt, alloc, few, script, &report)
 }

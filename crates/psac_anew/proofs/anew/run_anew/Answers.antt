@@ -1,4 +1,4 @@
-use Rattle.std.proofs.Common.{◌≡◌, ◌<◌, ap, sym, ◌∙◌, subst, length, Ok, Err}
+use Rattle.std.proofs.Common.{◌<◌, ap, sym, ◌∙◌, subst, length, Ok, Err}
 use Rattle.psac_model.specs.Fresh.{World, nodes_of, outcome}
 use Rattle.psac_model.specs.Work.{anew_work}
 use Rattle.psac_record.specs.Shown.{kept_of}

@@ -1,8 +1,7 @@
-use Rattle.std.proofs.Common.{◌≡◌, ◌∙◌, ap, sym, subst, length, Some, List, ℕ, arith}
+use Rattle.std.proofs.Common.{◌≡◌, sym, subst, length, Some, arith}
 use Rattle.psac_model.specs.Fresh.{World, main_of}
 use Rattle.psac_laws.proofs.Checked.{is_checked}
 use Rattle.psac_anew.specs.Running.{MayRun, HasRun}
-use Rattle.psac_engine.specs.Sound.{world_with}
 use Rattle.psac_anew.proofs.Worlds.{world_by, few_dests}
 use Rattle.psac_anew.proofs.anew.run_program.Goals as goal
 

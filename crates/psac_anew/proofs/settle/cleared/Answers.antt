@@ -1,5 +1,5 @@
 use Rattle.std.proofs.Common.{arith}
-use Rattle.std.proofs.Common.{ap, ◌∙◌, subst, sym, ◌<◌}
+use Rattle.std.proofs.Common.{subst, ◌<◌}
 use Rattle.psac_readers.specs.Chained.{mods_of}
 use Rattle.psac_anew.proofs.Begins.{time_in}
 use Rattle.psac_anew.proofs.Clears.{rested, cleared, has_all}

@@ -1,4 +1,4 @@
-use Rattle.std.proofs.Common.{◌≡◌, ◌∙◌, ap, sym, arith}
+use Rattle.std.proofs.Common.{◌∙◌, ap, sym, arith}
 use Rattle.psac_inputs.specs.Batch.{Batch}
 use Rattle.psac_inputs.specs.Grid.{Grid}
 use Rattle.psac_anew.proofs.Storing.{fixed_same, first_is, first_put, put_numbers, placed_all}

@@ -1,4 +1,4 @@
-use Rattle.std.proofs.Common.{◌∙◌, ap, sym, ◌+◌, ◌*◌, arith}
+use Rattle.std.proofs.Common.{ap, ◌+◌, ◌*◌, arith}
 use Rattle.psac_anew.proofs.Mains.{ground_is}
 use Rattle.psac_anew.proofs.Storing.{first_is}
 use Rattle.psac_anew.proofs.trace.ground.Goals as goal

@@ -1,4 +1,4 @@
-use Rattle.std.proofs.Common.{◌∙◌, ap, sym, ◌*◌, length, List, ℕ, rules, arith}
+use Rattle.std.proofs.Common.{◌∙◌, ap, ◌*◌, length, List, ℕ, rules, arith}
 use Rattle.psac_plain.specs.Slots.{env_of}
 use Rattle.psac_trace.specs.Asking.{setting_on}
 use Rattle.psac_trace.specs.Told.{ended_of}

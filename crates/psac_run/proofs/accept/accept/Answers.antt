@@ -1,4 +1,4 @@
-use Rattle.std.proofs.Common.{refl, ◌≡◌, Err}
+use Rattle.std.proofs.Common.{refl, Err}
 use Rattle.psac_run.specs.Accept.{Limit, Refuses, Syntax}
 use Rattle.psac_run.proofs.Lines.{breach_means, line_means, no_limit, no_syntax}
 use Rattle.psac_run.proofs.accept.accept.Goals as goal

@@ -1,5 +1,5 @@
 use Rattle.std.proofs.Common.{refl}
-use Rattle.psac_engine.specs.Engine.{world_in}
+use Rattle.psac_anew.specs.Engine.{world_in}
 use Rattle.psac_run.proofs.open.open.Goals as goal
 
 pub returns-clause-opened : goal.returns-clause-opened
@@ -10,7 +10,7 @@ returns-clause-opened c =
       opens = record {
         ids = c.in_ok-consts.consts.items;
         begun = c.enter_texts.new.texts;
-        enters = record { added = rw (c.as_slice.ensures, c.in_ok-texts.ensures) at c.in_ok-consts.ensures.added };
+        enters = record { added = rw (c.as_slice.ensures, c.program-2.ensures.same, c.in_ok-texts.ensures) at c.in_ok-consts.ensures.added };
         world = c.in_ok-engine.ensures.world;
         loads = c.in_ok-grid.ensures.taken;
       };

@@ -1,4 +1,4 @@
-use Rattle.std.proofs.Common.{◌≡◌, ◌∙◌, rules, refl}
+use Rattle.std.proofs.Common.{◌∙◌}
 use Rattle.psac_run.proofs.Parts.{finished_part, nothing_served, once_part, once_served}
 use Rattle.psac_run.proofs.serve.run_once.Goals as goal
 

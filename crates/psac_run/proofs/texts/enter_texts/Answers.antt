@@ -1,4 +1,4 @@
-use Rattle.std.proofs.Common.{rules, arith, ◌≡◌, ◌∙◌, ◌+◌, ap, refl, sym, length, take}
+use Rattle.std.proofs.Common.{rules, arith}
 use Rattle.std.proofs.lemmas.List.{take_all}
 use Rattle.psac_run.proofs.Enter.{all_more, take_one}
 use Rattle.psac_run.proofs.texts.enter_texts.Goals as goal

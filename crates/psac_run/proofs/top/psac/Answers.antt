@@ -1,4 +1,4 @@
-use Rattle.std.proofs.Common.{rules, ◌≡◌, ◌⊎◌, inl, inr, refl, Some, None, [], List, ℕ, map, string_bytes}
+use Rattle.std.proofs.Common.{rules, ◌≡◌, inl, inr, refl, Some, None, [], map, string_bytes}
 use Rattle.psac_command.specs.Asked.{asked}
 use Rattle.psac_command.specs.Views.{request_view}
 use Rattle.psac_run.specs.Answer.{IsAnswer, Usage}

@@ -1,7 +1,7 @@
-use Rattle.std.proofs.Common.{rules, ◌≡◌, ◌∙◌, inl, inr, refl, sym, subst, Some, None, [], List, ℕ}
+use Rattle.std.proofs.Common.{rules, inl, inr, refl, Some}
 use Rattle.psac_command.specs.Views.{request_view}
 use Rattle.psac_session.specs.Answered.{Answer, AnsweredLong, AnsweredWhole}
-use Rattle.psac_run.specs.Answer.{HasText, InputRefused, IsAnswer, Wrote}
+use Rattle.psac_run.specs.Answer.{InputRefused, IsAnswer}
 use Rattle.psac_run.proofs.Finished.{wrote_as, wrote_first_as}
 use Rattle.psac_run.proofs.Parts.{some_script}
 use Rattle.psac_run.proofs.Reports.{held, served_zero, wrote_part, wrote_report}

@@ -1,4 +1,4 @@
-use Rattle.std.proofs.Common.{rules, ◌≡◌, ◌∙◌, inl, inr, refl, Some, [], List, ℕ}
+use Rattle.std.proofs.Common.{rules, inl, inr, refl, Some, []}
 use Rattle.psac_command.specs.Views.{request_view}
 use Rattle.psac_run.specs.Answer.{IsAnswer, ProgramRefused}
 use Rattle.psac_run.proofs.Finished.{wrote_as, wrote_first_as}

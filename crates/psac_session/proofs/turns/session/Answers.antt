@@ -1,19 +1,15 @@
-use Rattle.std.proofs.Common.{◌≡◌, ◌⊎◌, ◌≤◌, ◌<◌, ◌+◌, ◌-◌, ◌++◌, ◌∷◌, [], List, ℕ, Option, Some, None, length, arith, rules, inl, inr, sym, ◌∙◌, ap, refl, subst, true, false, OnErr, OnOk}
-use Rattle.std.specs.Io.KnownBytes.{Consumes, IsAtEnd}
+use Rattle.std.proofs.Common.{◌≡◌, ◌<◌, length, arith, rules, inl, sym, ◌∙◌, ap, refl, subst, true, false}
 use Rattle.psac_base.specs.Causes.{Rose}
-use Rattle.psac_base.specs.Feeds.{NoFeed}
-use Rattle.psac_base.specs.Lines.{GivesLine, NoFeedBeforePiece, bytes_of, given_of, has_ended, is_live}
+use Rattle.psac_base.specs.Lines.{bytes_of, given_of, has_ended, is_live}
 use Rattle.psac_base.specs.Outside.{Appended, AppendedPart}
-use Rattle.psac_inputs.specs.Batch.{Batch, GoesInto, empty_batch}
+use Rattle.psac_inputs.specs.Batch.{Batch}
 use Rattle.psac_report.specs.First.{first_step, is_quit}
-use Rattle.psac_engine.specs.Engine.{caps_in, commits_in, grid_in, world_in}
+use Rattle.psac_anew.specs.Engine.{caps_in, world_in}
 use Rattle.psac_session.specs.declared.desk.Carried.TheVariants as carried
-use Rattle.psac_session.specs.Answered.{Answered, answer_of}
 use Rattle.psac_session.specs.State.{opening, state_in, state_with}
-use Rattle.psac_session.proofs.Told.{Told, given_more, on_err, on_ok, rose_since, smaller, told, told_quit}
-use Rattle.psac_session.proofs.Turn.{Going, Over, begins, counted, end_noted, not_ended, not_over, still_going, took_all, turn}
+use Rattle.psac_session.proofs.Told.{given_more, on_err, on_ok, rose_since, smaller, told, told_quit}
+use Rattle.psac_session.proofs.Turn.{Going, begins, counted, end_noted, not_ended, not_over, still_going, took_all, turn}
 use Rattle.psac_session.proofs.Ended.{breaks, consumes_nil, ends, nothing, part_going, part_wrote, quits, quits_read, too_long, whole_part}
-use Rattle.psac_session.proofs.turns.session.Given.{Over as Types}
 use Rattle.psac_session.proofs.turns.session.Goals as goal
 
 pub returns-in_default-clause-part : goal.returns-in_default-clause-part

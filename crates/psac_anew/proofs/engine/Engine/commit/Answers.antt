@@ -1,9 +1,8 @@
-use Rattle.std.proofs.Common.{◌≡◌, ◌+◌, ◌*◌, ◌<◌, ◌∙◌, ap, sym, subst, refl, length, is_some, true, false, ℕ, Option, Some, None, Result, Ok, Err, arith, List}
+use Rattle.std.proofs.Common.{◌≡◌, ◌+◌, ◌*◌, ◌<◌, ◌∙◌, ap, sym, subst, refl, length, is_some, true, false, Some, None, Result, Ok, Err, arith, List}
 use Rattle.std.proofs.lemmas.Grind.{merely}
 use Rattle.psac_ops.specs.declared.plain.TextId.{TextId}
 use Rattle.psac_model.specs.declared.ends.Work.{Work}
-use Rattle.psac_model.specs.declared.ends.End.TheVariants.{Done}
-use Rattle.psac_model.specs.Fresh.{World, fresh, main_of}
+use Rattle.psac_model.specs.Fresh.{fresh}
 use Rattle.psac_fork.specs.declared.tables.Pass.{Pass}
 use Rattle.psac_fork.specs.Whole.{IsOf}
 use Rattle.psac_record.specs.declared.record.Record.{Record}
@@ -13,7 +12,7 @@ use Rattle.psac_anew.specs.Places.{fixed_slots}
 use Rattle.psac_anew.specs.Resting.{HasAll, IsRested, IsCleared}
 use Rattle.psac_anew.specs.Running.{MayRun, HasRun, Shows}
 use Rattle.psac_anew.specs.Outputs.{HasOutputs}
-use Rattle.psac_engine.specs.Sound.{fresh_over, world_with}
+use Rattle.psac_engine.specs.Sound.{world_with}
 use Rattle.psac_anew.proofs.Settles.{all_older}
 use Rattle.psac_anew.proofs.Engines.{for_some, for_none, good_means, some_not}
 use Rattle.psac_anew.proofs.engine.Engine.commit.Goals as goal

@@ -1,5 +1,5 @@
-use Rattle.std.proofs.Common.{◌≡◌, ◌+◌, ◌*◌, ◌<◌, ◌∙◌, ap, sym, subst, refl, length, is_some, true, false, ℕ, Some, None, IsSome, arith}
-use Rattle.psac_model.specs.Fresh.{fresh, main_of}
+use Rattle.std.proofs.Common.{◌≡◌, ◌+◌, ◌*◌, ◌∙◌, ap, sym, subst, refl, length, None, IsSome, arith}
+use Rattle.psac_model.specs.Fresh.{main_of}
 use Rattle.psac_values.specs.Steps as values
 use Rattle.psac_readers.specs.Steps as readers
 use Rattle.psac_record.specs.declared.record.Record.{Record}

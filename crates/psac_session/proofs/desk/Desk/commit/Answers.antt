@@ -1,13 +1,12 @@
-use Rattle.std.proofs.Common.{◌≡◌, sym}
 use Rattle.psac_inputs.specs.Batch.{put_all}
-use Rattle.psac_engine.specs.Engine.{caps_in, grid_in, kept_in, world_in}
+use Rattle.psac_anew.specs.Engine.{caps_in, grid_in, kept_in, world_in}
 use Rattle.psac_script.specs.Replies.{reply_view}
 use Rattle.psac_session.specs.State.{state_in}
 use Rattle.psac_session.proofs.Stepped.{commit_step, ok_then}
 use Rattle.psac_session.proofs.desk.Desk.commit.Goals as goal
 
 pub returns-clause-step : goal.returns-clause-step
-returns-clause-step c =
+returns-clause-step g c =
     ok_then _ _ c.reply_to.result
     (λ reply replies. λ texts.
     let old = c.args.engine.now in
