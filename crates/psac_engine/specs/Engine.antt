@@ -20,7 +20,7 @@ grid_in e = e.grid
 
 -- the run that is kept, if one is
 abbrev pub kept_in : Engine → Option (Ran Name Heap)
-kept_in e = option_map (λ values. fresh (world_in e) e.grid) e.shown
+kept_in e = option_map (λ r. fresh (world_in e) e.grid) e.kept
 
 -- how many commits there were
 abbrev pub commits_in : Engine → ℕ

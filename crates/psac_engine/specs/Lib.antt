@@ -1,4 +1,13 @@
-pub mod Judged
 pub mod Commit
 pub mod Sound
+pub mod Places
+pub mod Holding
+pub mod Resting
+pub mod Settling
+pub mod Storing
+pub mod Tracing
+pub mod Running
+pub mod Answering
+pub mod Outputs
+pub mod Showing
 pub mod Engine

@@ -1,54 +1,65 @@
 // An engine, and its commits.
-ghost use Rattle.std.specs.Prelude.{◌≡◌, [], true, is_some, length, option_map, IsSome};
+ghost use Rattle.std.specs.Prelude.{◌≡◌, ◌+◌, ◌*◌, [], true, false, is_some, length, option_map, IsSome};
+ghost use Rattle.std.specs.Option.{ForSome};
 ghost use Rattle.psac_inputs.specs.Batch.{empty_batch, put_all, GoesInto};
 ghost use Rattle.psac_model.specs.declared.ends.End.TheVariants.{Done};
 ghost use Rattle.psac_model.specs.Fresh.{fresh, main_of};
+ghost use Rattle.psac_fork.specs.Whole.{IsOf};
+ghost use Rattle.psac_record.specs.Shown.{rec_of};
 ghost use Rattle.psac_engine.specs.Commit.{IsCaps};
-ghost use Rattle.psac_engine.specs.Sound.{fresh_outputs, fresh_over, world_with};
+ghost use Rattle.psac_engine.specs.Places.{fixed_slots};
+ghost use Rattle.psac_engine.specs.Resting.{HasAll, IsRested, IsCleared};
+ghost use Rattle.psac_engine.specs.Running.{Shows};
+ghost use Rattle.psac_engine.specs.Outputs.{HasOutputs};
+ghost use Rattle.psac_engine.specs.Sound.{fresh_over, world_with};
 
 use crate::Answer;
-use crate::judge::judged;
+use crate::anew::{outputs_of, run_program};
+use crate::settle::emptied;
+use crate::show::show_slots;
+use crate::store::{put_grid, staged};
 use psac_base::NoMemory;
+use psac_check::Checked;
+use psac_fork::{Crew, Gate, Pass, Tables};
 use psac_inputs::{Batch, Grid};
-use psac_model::{Caps, Shown, Work};
+use psac_model::{Caps, Shown, Size, Work};
 use psac_ops::TextId;
-use psac_plain::plain_run;
+use psac_record::Record;
 use psac_syntax::Program;
 use std::alloc::Global;
+use std::thread::Threads;
 
-/// A program over a grid, and the run of the present grid, where the last commit kept it.
+/// A program over a grid, the shared tables that its runs use, and the record of the run of the present grid.
 #[derive(Drop)]
 pub struct Engine {
     alloc: Global,
-    program: Program,
+    program: Checked,
     consts: Vec<TextId>,
     caps: Caps,
     grid: Grid,
-    // What is shown of the outputs of the run that is kept.
-    shown: Option<Vec<Shown>>,
+    tables: Tables,
+    // The pass of all that the tables have, but while a commit runs.
+    pass: Option<Pass>,
+    // The record of the run of the present grid, where the last commit kept it.
+    kept: Option<Record>,
     commits: u64,
     ghost main: { IsSome (main_of program) },
     ghost texts: { length consts.items ≡ length program.texts },
     ghost within: { IsCaps caps },
-    ghost told: { option_map (λ values. values.items) shown ≡ option_map (λ values. fresh_outputs (world_with program consts.items) grid) shown },
-    ghost small: { is_some shown ≡ true → fresh_over (world_with program consts.items) grid caps ≡ [] },
-    ghost done: { is_some shown ≡ true → (fresh (world_with program consts.items) grid).end ≡ Done },
-}
-
-// Puts what differs of a batch into the grid, and empties the batch.
-fn place(grid: &mut Grid, batch: &mut Batch)
-    requires { GoesInto batch.old grid.old }
-    ensures grid { grid.new ≡ put_all batch.old grid.old }
-    ensures batch { batch.new ≡ empty_batch grid.new }
-    ensures goes { GoesInto batch.new grid.new }
-{
-    batch.net(grid);
-    grid.put_all(batch);
-    batch.clear(grid);
+    ghost here: { is_some pass ≡ true },
+    ghost held: { ForSome pass (λ p. IsOf p tables) },
+    ghost all: { ForSome pass (λ p. HasAll grid (length (world_with program consts.items).main.dests) caps (1 + 2 * commits) p) },
+    ghost rested: { ForSome pass IsRested },
+    ghost cleared: { ForSome pass (λ p. is_some kept ≡ false → IsCleared (fixed_slots grid (length (world_with program consts.items).main.dests)) p) },
+    ghost outputs: { ForSome pass (λ p. is_some kept ≡ true → HasOutputs (world_with program consts.items) grid p.values.knows) },
+    ghost small: { is_some kept ≡ true → fresh_over (world_with program consts.items) grid caps ≡ [] },
+    ghost done: { is_some kept ≡ true → (fresh (world_with program consts.items) grid).end ≡ Done },
+    ghost shows: { ForSome kept (λ r. ∥ Shows (world_with program consts.items) grid caps (rec_of r) ∥₁) },
 }
 
 impl Engine {
     ghost use Rattle.std.specs.Prelude.{◌+◌, ◌<◌, IfOk, Some};
+    ghost use Rattle.psac_model.specs.Tree.{size_of};
     ghost use Rattle.psac_model.specs.Fresh.{outcome, world_of};
     ghost use Rattle.psac_model.specs.Outputs.{outputs_from};
     ghost use Rattle.psac_engine.specs.Commit.{Answers, kept_after, most_commits};
@@ -57,24 +68,30 @@ impl Engine {
     /// An engine in which nothing has run. The texts are those of the program, in its order.
     pub fn open(
         alloc: Global,
-        program: Program,
+        program: Checked,
         consts: Vec<TextId>,
         grid: Grid,
         caps: Caps,
     ) -> Result<Engine, NoMemory>
-        requires main { IsSome (main_of program) }
         requires texts { length consts.items ≡ length program.texts }
         requires caps { IsCaps caps }
         ensures world { IfOk result (λ e. world_of program consts.items ≡ Some (world_in e)) }
         ensures opened { IfOk result (IsOpened caps grid) }
     {
+        program.program();
+        let outs = outputs_of(&program);
+        let fixed = grid.room() * grid.cols() + outs + 1;
+        let (tables, mut pass) = Tables::new(alloc, fixed, caps)?;
+        put_grid(&tables.values, &mut pass.values, &grid, outs);
         Ok(Engine {
             alloc,
             program,
             consts,
             caps,
             grid,
-            shown: None,
+            tables,
+            pass: Some(pass),
+            kept: None,
             commits: 0,
         })
     }
@@ -83,7 +100,13 @@ impl Engine {
     /// whatever is answered. With an error no run is kept.
     ///
     /// Each commit runs anew, also where a run is kept and where nothing differs.
-    pub fn commit(&mut self, batch: &mut Batch) -> Result<Work, Answer>
+    pub fn commit<Rt: Threads + Sync, G: Gate + Sync>(
+        &mut self,
+        rt: &Rt,
+        batch: &mut Batch,
+        crew: &Crew,
+        gate: &G,
+    ) -> Result<Work, Answer>
         requires goes { GoesInto batch.old (grid_in self.old) }
         requires few { commits_in self.old < most_commits }
         ensures grid { grid_in self.new ≡ put_all batch.old (grid_in self.old) }
@@ -95,15 +118,34 @@ impl Engine {
         ensures batch { batch.new ≡ empty_batch (grid_in self.new) }
         ensures goes { GoesInto batch.new (grid_in self.new) }
     {
-        self.commits += 1;
-        self.shown = None;
-        place(&mut self.grid, batch);
-        let Ok(told) = plain_run(self.alloc, &self.program, &self.consts, &self.grid) else {
-            return Err(Answer::NoMemory);
+        // From it the check learns what holds of the grid.
+        self.grid.rows();
+        let outs = outputs_of(&self.program);
+        let Some(pass) = self.pass.take() else {
+            unreachable!()
         };
-        let answer = judged(told.end, &told.size, &self.caps);
-        self.shown = answer.is_ok().then_some(told.outputs);
-        answer
+        let pass = emptied(self.kept.take(), &self.tables, pass);
+        let pass = staged(&self.tables, pass, &mut self.grid, batch, outs);
+        let (told, pass) = run_program(
+            rt,
+            self.alloc,
+            crew,
+            gate,
+            &self.tables,
+            &self.program,
+            &self.consts,
+            &self.grid,
+            pass,
+        );
+        self.commits += 1;
+        self.pass = Some(pass);
+        match told {
+            Ok((work, record)) => {
+                self.kept = Some(record);
+                Ok(work)
+            }
+            Err(answer) => Err(answer),
+        }
     }
 
     /// How many commits there were, whatever they answered.
@@ -126,16 +168,47 @@ impl Engine {
         ensures value { result.now ≡ (world_in self.now).program }
         ensures world { world_of result.now (world_in self.now).texts ≡ Some (world_in self.now) }
     {
-        &self.program
+        self.program.program()
     }
 
-    /// What is shown of main's outputs, in its order; `None` exactly where no run is kept.
-    pub fn shown(&self) -> Option<&[Shown]>
-        ensures { option_map (λ values. values.now) result
-            ≡ option_map (λ r. outputs_from r.heap 0 (world_in self.now).main.dests) (kept_in self.now) }
+    /// What is shown of main's outputs, in its order; `None` exactly where no run is kept. The engine holds what it held.
+    pub fn shown(&mut self) -> Result<Option<Vec<Shown>>, NoMemory>
+        ensures shown { IfOk result (λ told. option_map (λ values. values.items) told
+            ≡ option_map (λ r. outputs_from r.heap 0 (world_in self.old).main.dests) (kept_in self.old)) }
+        ensures kept { kept_in self.new ≡ kept_in self.old }
+        ensures grid { grid_in self.new ≡ grid_in self.old }
+        ensures commits { commits_in self.new ≡ commits_in self.old }
+        ensures world { world_in self.new ≡ world_in self.old }
+        ensures caps { caps_in self.new ≡ caps_in self.old }
     {
-        match &self.shown {
-            Some(values) => Some(values.as_slice()),
+        if self.kept.is_none() {
+            return Ok(None);
+        }
+        let outs = outputs_of(&self.program);
+        let first = self.grid.room() * self.grid.cols();
+        let Some(mut pass) = self.pass.take() else {
+            unreachable!()
+        };
+        let told = show_slots(
+            self.alloc,
+            &self.tables.values,
+            &mut pass.values,
+            first,
+            outs,
+        );
+        self.pass = Some(pass);
+        match told {
+            Ok(values) => Ok(Some(values)),
+            Err(NoMemory) => Err(NoMemory),
+        }
+    }
+
+    /// The size of the record that is kept; `None` exactly where none is.
+    pub fn size(&self) -> Option<Size>
+        ensures { result ≡ option_map (λ r. size_of r.tree) (kept_in self.now) }
+    {
+        match &self.kept {
+            Some(record) => Some(record.size()),
             None => None,
         }
     }

@@ -1,9 +1,13 @@
-//! A program over a grid, kept up to date by commits of batches.
+//! The engine over the shared tables: each commit runs the program from scratch by the tracing run, and keeps the record.
 #![tactic(auto)]
 
+mod anew;
 mod answer;
 mod engine;
-mod judge;
+mod settle;
+mod show;
+mod store;
+mod trace;
 
 pub use answer::Answer;
 pub use engine::Engine;

@@ -5,7 +5,7 @@ use Rattle.psac_base.specs.Outside.{Appended, AppendedPart}
 use Rattle.psac_inputs.specs.Texts.{Texts}
 use Rattle.psac_command.specs.declared.request.Mode.{Mode}
 use Rattle.psac_command.specs.declared.request.Mode.TheVariants.{Once}
-use Rattle.psac_anew.specs.declared.engine.Engine.{Engine}
+use Rattle.psac_engine.specs.declared.engine.Engine.{Engine}
 use Rattle.psac_session.specs.Answered.{IsScript}
 use Rattle.psac_run.specs.Served.{Served, ServedPart, report_in}
 

@@ -16,8 +16,8 @@ use Rattle.psac_report.specs.First.{first_report, first_step, replies_by}
 use Rattle.psac_command.specs.declared.request.Mode.{Mode}
 use Rattle.psac_command.specs.declared.request.Mode.TheVariants.{Once, Session}
 use Rattle.psac_command.specs.Asked.{Asked}
-use Rattle.psac_anew.specs.declared.engine.Engine.{Engine}
-use Rattle.psac_anew.specs.Engine.{IsOpened, caps_in, grid_in, kept_in, world_in}
+use Rattle.psac_engine.specs.declared.engine.Engine.{Engine}
+use Rattle.psac_engine.specs.Engine.{IsOpened, caps_in, grid_in, kept_in, world_in}
 use Rattle.psac_session.specs.State.{kept_of, no_places}
 use Rattle.psac_session.specs.Answered.{Answer, answer_of}
 use Rattle.psac_run.specs.declared.open.Opened.{Opened}

@@ -6,8 +6,8 @@ use Rattle.psac_inputs.specs.Texts.{Texts}
 use Rattle.psac_report.specs.Report.{once_report}
 use Rattle.psac_command.specs.declared.request.Mode.{Mode}
 use Rattle.psac_command.specs.declared.request.Mode.TheVariants.{Once, Session}
-use Rattle.psac_anew.specs.declared.engine.Engine.{Engine}
-use Rattle.psac_anew.specs.Engine.{caps_in, grid_in, world_in}
+use Rattle.psac_engine.specs.declared.engine.Engine.{Engine}
+use Rattle.psac_engine.specs.Engine.{caps_in, grid_in, world_in}
 use Rattle.psac_session.specs.Answered.{IsScript, answer_of}
 
 -- the report over what an engine holds

@@ -4,7 +4,7 @@ use Rattle.psac_syntax.specs.declared.program.Program.{Program}
 use Rattle.psac_inputs.specs.Grid.{Grid}
 use Rattle.psac_model.specs.declared.ends.Caps.{Caps}
 use Rattle.psac_model.specs.Fresh.{World}
-use Rattle.psac_anew.specs.Engine.{IsOpened, world_in}
+use Rattle.psac_engine.specs.Engine.{IsOpened, world_in}
 use Rattle.psac_run.specs.declared.open.Opened.{Opened}
 use Rattle.psac_run.specs.Opens.{Opens}
 

@@ -3,7 +3,7 @@ ghost use Rattle.std.specs.Prelude.{◌≡◌, ◌⊎◌, ◌+◌, ◌↔◌, �
 ghost use Rattle.psac_base.specs.Causes.{Rose};
 ghost use Rattle.psac_base.specs.Outside.{Appended};
 ghost use Rattle.psac_command.specs.declared.request.Mode.TheVariants.{Once as Single, Session as Whole};
-ghost use Rattle.psac_anew.specs.Engine.{commits_in};
+ghost use Rattle.psac_engine.specs.Engine.{commits_in};
 ghost use Rattle.psac_session.specs.Answered.{AnsweredLong, AnsweredWhole, ReadOut, answer_of};
 ghost use Rattle.psac_run.specs.Served.{IsServed, Served, ServedPart};
 

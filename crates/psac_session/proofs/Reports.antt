@@ -7,8 +7,8 @@ use Rattle.psac_model.specs.declared.ends.Caps.{Caps}
 use Rattle.psac_model.specs.Fresh.{World}
 use Rattle.psac_report.specs.Session.{State, begun}
 use Rattle.psac_report.specs.First.{first_report, first_step, replies_by}
-use Rattle.psac_anew.specs.declared.engine.Engine.{Engine}
-use Rattle.psac_anew.specs.Engine.{IsOpened, caps_in, grid_in, kept_in, world_in}
+use Rattle.psac_engine.specs.declared.engine.Engine.{Engine}
+use Rattle.psac_engine.specs.Engine.{IsOpened, caps_in, grid_in, kept_in, world_in}
 use Rattle.psac_session.specs.Answered.{answer_of}
 use Rattle.psac_session.specs.State.{no_places, opening}
 

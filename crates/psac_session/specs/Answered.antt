@@ -6,8 +6,8 @@ use Rattle.psac_base.specs.Feeds.{NoFeed, lines_of}
 use Rattle.psac_base.specs.Outside.{Appended, AppendedPart}
 use Rattle.psac_inputs.specs.Texts.{Texts}
 use Rattle.psac_report.specs.First.{first_step, is_quit, replies_by}
-use Rattle.psac_anew.specs.declared.engine.Engine.{Engine}
-use Rattle.psac_anew.specs.Engine.{caps_in, world_in}
+use Rattle.psac_engine.specs.declared.engine.Engine.{Engine}
+use Rattle.psac_engine.specs.Engine.{caps_in, world_in}
 use Rattle.psac_session.specs.State.{opening}
 
 -- an engine with fewer commits has enough left for every line of a script

@@ -5,8 +5,8 @@ use Rattle.psac_inputs.specs.Texts.{Texts}
 use Rattle.psac_model.specs.Names.{Name, Heap}
 use Rattle.psac_model.specs.Run.{Ran}
 use Rattle.psac_report.specs.Session.{Kept, Place, State, place_count}
-use Rattle.psac_anew.specs.declared.engine.Engine.{Engine}
-use Rattle.psac_anew.specs.Engine.{grid_in, kept_in}
+use Rattle.psac_engine.specs.declared.engine.Engine.{Engine}
+use Rattle.psac_engine.specs.Engine.{grid_in, kept_in}
 use Rattle.psac_session.specs.declared.desk.Desk.{Desk}
 
 abbrev pub kept_of : Ran Name Heap → Kept

@@ -9,11 +9,11 @@ ghost use Rattle.psac_report.specs.First.{committed_anew, first_step, is_quit, q
 ghost use Rattle.psac_script.specs.Commands.{command_view};
 ghost use Rattle.psac_script.specs.Replies.{reply_view};
 ghost use Rattle.psac_engine.specs.Commit.{most_commits};
-ghost use Rattle.psac_anew.specs.Engine.{caps_in, commits_in, grid_in, world_in};
+ghost use Rattle.psac_engine.specs.Engine.{caps_in, commits_in, grid_in, world_in};
 ghost use Rattle.psac_session.specs.Replied.{IsReplyTo};
 
 use crate::show::{shown_reply, sized_reply};
-use psac_anew::Engine;
+use psac_engine::Engine;
 use psac_base::NoMemory;
 use psac_engine::Answer;
 use psac_fork::{Crew, Gate};

@@ -6,10 +6,10 @@ ghost use Rattle.psac_report.specs.Report.{once_report, outcome_text};
 ghost use Rattle.psac_report.specs.Session.{reply_text};
 ghost use Rattle.psac_script.specs.Replies.{reply_view};
 ghost use Rattle.psac_engine.specs.Commit.{most_commits};
-ghost use Rattle.psac_anew.specs.Engine.{caps_in, commits_in, grid_in, world_in};
+ghost use Rattle.psac_engine.specs.Engine.{caps_in, commits_in, grid_in, world_in};
 
 use crate::show::shown_reply;
-use psac_anew::Engine;
+use psac_engine::Engine;
 use psac_base::NoMemory;
 use psac_engine::Answer;
 use psac_fork::{Crew, Gate};

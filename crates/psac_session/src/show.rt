@@ -3,10 +3,10 @@ ghost use Rattle.std.specs.Prelude.{◌≡◌, IfOk, option_map};
 ghost use Rattle.psac_model.specs.Outputs.{outputs_from};
 ghost use Rattle.psac_report.specs.Session.{outputs_reply, shown_tree};
 ghost use Rattle.psac_script.specs.Replies.{reply_view};
-ghost use Rattle.psac_anew.specs.Engine.{caps_in, commits_in, grid_in, kept_in, world_in};
+ghost use Rattle.psac_engine.specs.Engine.{caps_in, commits_in, grid_in, kept_in, world_in};
 ghost use Rattle.psac_session.specs.State.{kept_of};
 
-use psac_anew::Engine;
+use psac_engine::Engine;
 use psac_base::NoMemory;
 use psac_script::Reply;
 

@@ -1,12 +1,12 @@
 // The loop over the lines of a script.
 ghost use Rattle.std.specs.Prelude.{◌≡◌, ◌+◌, ◌<◌, ◌↔◌};
 ghost use Rattle.psac_base.specs.Causes.{Rose};
-ghost use Rattle.psac_anew.specs.Engine.{commits_in};
+ghost use Rattle.psac_engine.specs.Engine.{commits_in};
 ghost use Rattle.psac_session.specs.Answered.{Answered, AnsweredPart, AnsweredWhole, AnsweredLong, ReadOut, answer_of, most_opened};
 
 use crate::SessionEnd;
 use crate::desk::{Carried, Desk};
-use psac_anew::Engine;
+use psac_engine::Engine;
 use psac_base::{LineFault, Lines, Sink, Source, write_whole};
 use psac_fork::{Crew, Gate};
 use psac_inputs::Interner;

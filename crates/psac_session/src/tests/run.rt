@@ -1,10 +1,10 @@
 // A session over a column of fields.
 ghost use Rattle.std.specs.Prelude.{◌≡◌, IfOk, true};
 ghost use Rattle.psac_engine.specs.Commit.{IsCap};
-ghost use Rattle.psac_anew.specs.Engine.{commits_in};
+ghost use Rattle.psac_engine.specs.Engine.{commits_in};
 
 use crate::{SessionEnd, session};
-use psac_anew::Engine;
+use psac_engine::Engine;
 use psac_base::{MemSink, MemSource, Sink, Source};
 use psac_check::{Checked, check};
 use psac_fork::{Crew, NoGate};

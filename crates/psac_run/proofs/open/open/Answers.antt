@@ -1,5 +1,5 @@
 use Rattle.std.proofs.Common.{refl}
-use Rattle.psac_anew.specs.Engine.{world_in}
+use Rattle.psac_engine.specs.Engine.{world_in}
 use Rattle.psac_run.proofs.open.open.Goals as goal
 
 pub returns-clause-opened : goal.returns-clause-opened

@@ -1,7 +1,7 @@
 use Rattle.std.proofs.Common.{◌∙◌, sym}
 use Rattle.std.proofs.lemmas.Result.{IfOk-weaker}
 use Rattle.psac_report.proofs.Once.{once_report_is}
-use Rattle.psac_anew.specs.Engine.{caps_in, grid_in, world_in}
+use Rattle.psac_engine.specs.Engine.{caps_in, grid_in, world_in}
 use Rattle.psac_session.proofs.FirstText.{text_is}
 use Rattle.psac_session.proofs.first.once.Goals as goal
 

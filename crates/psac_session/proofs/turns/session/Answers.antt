@@ -4,7 +4,7 @@ use Rattle.psac_base.specs.Lines.{bytes_of, given_of, has_ended, is_live}
 use Rattle.psac_base.specs.Outside.{Appended, AppendedPart}
 use Rattle.psac_inputs.specs.Batch.{Batch}
 use Rattle.psac_report.specs.First.{first_step, is_quit}
-use Rattle.psac_anew.specs.Engine.{caps_in, world_in}
+use Rattle.psac_engine.specs.Engine.{caps_in, world_in}
 use Rattle.psac_session.specs.declared.desk.Carried.TheVariants as carried
 use Rattle.psac_session.specs.State.{opening, state_in, state_with}
 use Rattle.psac_session.proofs.Told.{given_more, on_err, on_ok, rose_since, smaller, told, told_quit}

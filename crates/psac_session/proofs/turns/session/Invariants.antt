@@ -3,7 +3,7 @@ use Rattle.std.specs.Io.KnownBytes.{Consumes, IsAtEnd}
 use Rattle.psac_base.specs.Lines.{bytes_of, given_of, has_ended, is_live}
 use Rattle.psac_inputs.specs.Batch.{GoesInto}
 use Rattle.psac_report.specs.First.{first_step}
-use Rattle.psac_anew.specs.Engine.{caps_in, commits_in, grid_in, world_in}
+use Rattle.psac_engine.specs.Engine.{caps_in, commits_in, grid_in, world_in}
 use Rattle.psac_session.specs.State.{opening, state_in}
 use Rattle.psac_session.proofs.Turn.{Going, Over}
 use Rattle.psac_session.proofs.turns.session.Given as goal

@@ -1,6 +1,6 @@
 use Rattle.std.proofs.Common.{◌∙◌, ap}
 use Rattle.psac_inputs.specs.Grid.{Grid}
-use Rattle.psac_anew.specs.Engine.{grid_in}
+use Rattle.psac_engine.specs.Engine.{grid_in}
 use Rattle.psac_session.proofs.Stepped.{has_below}
 use Rattle.psac_session.proofs.desk.Desk.has_cell.Goals as goal
 
