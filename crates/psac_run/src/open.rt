@@ -8,9 +8,9 @@ ghost use Rattle.psac_run.specs.Views.{Holds};
 use crate::input::take_input;
 use crate::refusal::Refusal;
 use crate::texts::enter_texts;
-use psac_engine::Engine;
 use psac_check::Checked;
 use psac_command::Settings;
+use psac_engine::Engine;
 use psac_inputs::Interner;
 use std::alloc::Global;
 

@@ -13,9 +13,8 @@ ghost use Rattle.psac_engine.specs.Engine.{caps_in, commits_in, grid_in, world_i
 ghost use Rattle.psac_session.specs.Replied.{IsReplyTo};
 
 use crate::show::{shown_reply, sized_reply};
-use psac_engine::Engine;
 use psac_base::NoMemory;
-use psac_engine::Answer;
+use psac_engine::{Answer, Engine};
 use psac_fork::{Crew, Gate};
 use psac_inputs::{Batch, Interner, TextFault};
 use psac_model::Work;

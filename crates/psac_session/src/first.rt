@@ -9,9 +9,8 @@ ghost use Rattle.psac_engine.specs.Commit.{most_commits};
 ghost use Rattle.psac_engine.specs.Engine.{caps_in, commits_in, grid_in, world_in};
 
 use crate::show::shown_reply;
-use psac_engine::Engine;
 use psac_base::NoMemory;
-use psac_engine::Answer;
+use psac_engine::{Answer, Engine};
 use psac_fork::{Crew, Gate};
 use psac_inputs::{Batch, Interner};
 use psac_script::{Reply, reply_text};

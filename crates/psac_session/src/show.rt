@@ -6,8 +6,8 @@ ghost use Rattle.psac_script.specs.Replies.{reply_view};
 ghost use Rattle.psac_engine.specs.Engine.{caps_in, commits_in, grid_in, kept_in, world_in};
 ghost use Rattle.psac_session.specs.State.{kept_of};
 
-use psac_engine::Engine;
 use psac_base::NoMemory;
+use psac_engine::Engine;
 use psac_script::Reply;
 
 /// The outputs of the run that is kept, or that there is none.

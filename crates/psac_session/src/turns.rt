@@ -6,8 +6,8 @@ ghost use Rattle.psac_session.specs.Answered.{Answered, AnsweredPart, AnsweredWh
 
 use crate::SessionEnd;
 use crate::desk::{Carried, Desk};
-use psac_engine::Engine;
 use psac_base::{LineFault, Lines, Sink, Source, write_whole};
+use psac_engine::Engine;
 use psac_fork::{Crew, Gate};
 use psac_inputs::Interner;
 use std::alloc::Global;

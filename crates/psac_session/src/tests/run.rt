@@ -4,9 +4,9 @@ ghost use Rattle.psac_engine.specs.Commit.{IsCap};
 ghost use Rattle.psac_engine.specs.Engine.{commits_in};
 
 use crate::{SessionEnd, session};
-use psac_engine::Engine;
 use psac_base::{MemSink, MemSource, Sink, Source};
 use psac_check::{Checked, check};
+use psac_engine::Engine;
 use psac_fork::{Crew, NoGate};
 use psac_inputs::{Grid, Interner, load_lines};
 use psac_lang::parse;
