@@ -29,6 +29,7 @@ use Rattle.psac_plain.specs.Opened.{first_output, output_env, setting_over}
 use Rattle.psac_trace.specs.Fit.{AtHand, Fit}
 use Rattle.psac_trace.specs.Rights.{Ready}
 use Rattle.psac_trace.specs.Running.{Begins}
+use Rattle.psac_trace.proofs.Warning.{warns_of_none}
 use Rattle.psac_anew.specs.Places.{fixed_slots, base_heap}
 use Rattle.psac_anew.specs.Holding.{HasFixed, IsBare}
 use Rattle.psac_anew.specs.Resting.{HasSets, HasAll, IsRested, IsCleared}
@@ -104,7 +105,7 @@ module _ (w : World) (g : Grid) (ok : IsGrid g) (checked : IsChecked w) (caps : 
       (first_ready w g ok checked p.values.knows rest.fixed rest.grid)
 
   -- a cleared pass begins main's body
-  pub begins : Begins (setting_over g w.texts outs) w.program.funcs t w.main.body (output_env (first_output g) w.main.dests []) None p
+  pub begins : Begins (setting_over g w.texts outs) w.program.funcs [] t w.main.body (output_env (first_output g) w.main.dests []) None p
   begins =
       record {
         of = of;
@@ -114,4 +115,6 @@ module _ (w : World) (g : Grid) (ok : IsGrid g) (checked : IsChecked w) (caps : 
         fit = first_fit;
         parent = tt;
         needs = (base_heap g w.main.dests, params w.main, body_left.end, body_left.meets, ready);
+        -- a first run has no readers to raise
+        warns = warns_of_none (setting_over g w.texts outs) w.main.body (output_env (first_output g) w.main.dests []) p (base_heap g w.main.dests, params w.main, body_left.end, body_left.meets, ready);
       }
