@@ -24,8 +24,10 @@ use Rattle.psac_plain.specs.Opened.{first_output, output_env, setting_over}
 use Rattle.psac_trace.specs.Fit.{AtHand, Fit}
 use Rattle.psac_trace.specs.Rights.{Ready}
 use Rattle.psac_trace.specs.Running.{Begins}
+use Rattle.psac_trace.proofs.Warning.{warns_of_none}
 use Rattle.psac_engine.specs.Places.{fixed_slots, base_heap}
-use Rattle.psac_engine.specs.Resting.{HasAll, IsRested, IsCleared}
+use Rattle.psac_engine.specs.Holding.{HasFixed, IsBare}
+use Rattle.psac_engine.specs.Resting.{HasSets, HasAll, IsRested, IsCleared}
 use Rattle.psac_engine.proofs.Members.{counted_in, in_counted}
 use Rattle.psac_engine.proofs.Readies.{first_ready, first_tidy}
 
@@ -98,7 +100,7 @@ module _ (w : World) (g : Grid) (ok : IsGrid g) (checked : IsChecked w) (caps : 
       (first_ready w g ok checked p.values.knows rest.fixed rest.grid)
 
   -- a cleared pass begins main's body
-  pub begins : Begins (setting_over g w.texts outs) w.program.funcs t w.main.body (output_env (first_output g) w.main.dests []) None p
+  pub begins : Begins (setting_over g w.texts outs) w.program.funcs [] t w.main.body (output_env (first_output g) w.main.dests []) None p
   begins =
       record {
         of = of;
@@ -108,4 +110,6 @@ module _ (w : World) (g : Grid) (ok : IsGrid g) (checked : IsChecked w) (caps : 
         fit = first_fit;
         parent = tt;
         needs = (base_heap g w.main.dests, params w.main, body_left.end, body_left.meets, ready);
+        -- a first run has no readers to raise
+        warns = warns_of_none (setting_over g w.texts outs) w.main.body (output_env (first_output g) w.main.dests []) p (base_heap g w.main.dests, params w.main, body_left.end, body_left.meets, ready);
       }

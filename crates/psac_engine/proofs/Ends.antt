@@ -91,7 +91,7 @@ module _ (w : World) (g : Grid) (ok : IsGrid g) (checked : IsChecked w) (caps : 
   -- what a run of main's body leaves
   abbrev pub IsLeft : Pass → Ended Kept → Type 0
   IsLeft q e =
-      Leaves ground (traced ground w.program.funcs levels) (cut_short ground w.program.funcs levels) t w.main.body env None p q e
+      Leaves ground (traced ground w.program.funcs levels) (cut_short ground w.program.funcs levels) [] t w.main.body env None p q e
 
   module _ (q : Pass) where
     abbrev pub Tells : Ended Kept → Type 0

@@ -35,17 +35,17 @@ module _ (g : Grid) (texts : List TextId) (funcs : List Func) (main : Func) (t :
   places_is : env ≡ main_places g main
   places_is = bound ∙ ap (λ ds. output_env first ds []) outs ∙ ap (λ k. output_env k main.dests []) at
 
-  pub begins_same : MainBegins g texts funcs main t p → Begins s funcs t body env None p
+  pub begins_same : MainBegins g texts funcs main t p → Begins s funcs [] t body env None p
   begins_same b =
-      subst (λ z. Begins z funcs t body env None p) (sym setting_is)
-      (subst (λ z. Begins (main_setting g texts main) funcs t z env None p) (sym whole)
-      (subst (λ z. Begins (main_setting g texts main) funcs t main.body z None p) (sym places_is) b))
+      subst (λ z. Begins z funcs [] t body env None p) (sym setting_is)
+      (subst (λ z. Begins (main_setting g texts main) funcs [] t z env None p) (sym whole)
+      (subst (λ z. Begins (main_setting g texts main) funcs [] t main.body z None p) (sym places_is) b))
 
-  pub leaves_same : (q : Pass) (e : Ended Kept) → Leaves s (traced s funcs levels) (cut_short s funcs levels) t body env None p q e → MainLeaves g texts funcs main t p q e
+  pub leaves_same : (q : Pass) (e : Ended Kept) → Leaves s (traced s funcs levels) (cut_short s funcs levels) [] t body env None p q e → MainLeaves g texts funcs main t p q e
   leaves_same q e l =
-      subst (λ z. Leaves (main_setting g texts main) (traced (main_setting g texts main) funcs levels) (cut_short (main_setting g texts main) funcs levels) t main.body z None p q e) places_is
-      (subst (λ z. Leaves (main_setting g texts main) (traced (main_setting g texts main) funcs levels) (cut_short (main_setting g texts main) funcs levels) t z env None p q e) whole
-      (subst (λ z. Leaves z (traced z funcs levels) (cut_short z funcs levels) t body env None p q e) setting_is l))
+      subst (λ z. Leaves (main_setting g texts main) (traced (main_setting g texts main) funcs levels) (cut_short (main_setting g texts main) funcs levels) [] t main.body z None p q e) places_is
+      (subst (λ z. Leaves (main_setting g texts main) (traced (main_setting g texts main) funcs levels) (cut_short (main_setting g texts main) funcs levels) [] t z env None p q e) whole
+      (subst (λ z. Leaves z (traced z funcs levels) (cut_short z funcs levels) [] t body env None p q e) setting_is l))
 
 -- a run that wants memory before it begins
 same_claims : (d : ClaimView) → MoreClaims d d 0
@@ -96,6 +96,7 @@ made_nothing g texts funcs main t p b =
       all = (refl, (omega (arith, b.room.2), omega (arith, b.room.1)));
       room = tt;
       full = tt;
+      raises = tt;
       tells = λ base st end m r. (
         subst (CutOn same_handle (cut_short (main_setting g texts main) funcs levels) main.body (main_places g main) base rec.E) (sym b.room.0) (cut_on_none same_handle (main_setting g texts main) funcs levels main.body (main_places g main) base),
         r.sees,

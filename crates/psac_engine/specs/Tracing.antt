@@ -24,8 +24,8 @@ abbrev pub main_places : Grid → Func → Env Handle
 main_places g main = output_env (first_output g) main.dests []
 
 abbrev pub MainBegins : Grid → List TextId → List Func → Func → Tables → Pass → Type 0
-MainBegins g texts funcs main t p = Begins (main_setting g texts main) funcs t main.body (main_places g main) None p
+MainBegins g texts funcs main t p = Begins (main_setting g texts main) funcs [] t main.body (main_places g main) None p
 
 abbrev pub MainLeaves : Grid → List TextId → List Func → Func → Tables → Pass → Pass → Ended Kept → Type 0
 MainLeaves g texts funcs main t p q e =
-    Leaves (main_setting g texts main) (traced (main_setting g texts main) funcs levels) (cut_short (main_setting g texts main) funcs levels) t main.body (main_places g main) None p q e
+    Leaves (main_setting g texts main) (traced (main_setting g texts main) funcs levels) (cut_short (main_setting g texts main) funcs levels) [] t main.body (main_places g main) None p q e

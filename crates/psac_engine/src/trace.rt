@@ -85,6 +85,7 @@ pub fn run_main<Rt: Threads + Sync, G: Gate + Sync>(
             &ground,
             texts,
             funcs,
+            &[],
             0,
             main.body.as_slice(),
             &env,

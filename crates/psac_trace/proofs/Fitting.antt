@@ -414,7 +414,7 @@ module _ (v : MarksView) (r : Rooted v) where
       }
 
   -- a node that is kept both sides have
-  told_place : (e : Place) → Member e (places v) → IsKept v e.node.slot → Member e (map marks_rule.shared_place (marks.now_shared S N v))
+  pub told_place : (e : Place) → Member e (places v) → IsKept v e.node.slot → Member e (map marks_rule.shared_place (marks.now_shared S N v))
   told_place e i k =
       ⊎_elim
       (λ (j : Member e (map (marks_rule.own_place v.claims.branch) v.own)).

@@ -66,7 +66,7 @@ module _ (shared to_right : ℕ → Bool) (v : ValueView) where
       let e = slot_at h.0.of m h.2 in
       ((h.0, q.0, h.2), ap shared (sym e) ∙ not_is (shared h.0.of.slot) b.0, ap to_right (sym e) ∙ b.1)
 
-  lent_in : (w : OwnedView) → Member w v.mine → shared w.of.slot ≡ true → Member (lent v.claims.branch w) told
+  pub lent_in : (w : OwnedView) → Member w v.mine → shared w.of.slot ≡ true → Member (lent v.claims.branch w) told
   lent_in w i s =
       member_right (lent v.claims.branch w) v.known (map (ways.lend v.claims.branch) (filter (lends ways shared to_right) v.mine))
       (map_member (ways.lend v.claims.branch) w (filter (lends ways shared to_right) v.mine) (filter_member (lends ways shared to_right) w v.mine i s))
@@ -82,7 +82,7 @@ module _ (shared to_right : ℕ → Bool) (v : ValueView) where
       inr (q.0, f.0, f.1, q.2))
       (member_cases e v.known (map (ways.lend v.claims.branch) (filter (lends ways shared to_right) v.mine)) i)
 
-  told_known : (e : KnownView) → Member e v.known → Member e told
+  pub told_known : (e : KnownView) → Member e v.known → Member e told
   told_known e i = member_left e v.known (map (ways.lend v.claims.branch) (filter (lends ways shared to_right) v.mine)) i
 
   -- what goes to neither side alone both see

@@ -52,7 +52,7 @@ module _ (w : Setting Handle) (env : Env Handle) where
       let q : (b.0, c.0) ≡ r = ok_is c.2 in
       subst (λ (z : Handle × Value Handle). held_by w.same base z.0 ≡ Some z.1) q (or_kind_is (held_by w.same base b.0) c.0 c.1)
 
-  reads_match : w.same ≡ same_handle → (base : Heap) (items : List ReadItem) (rs : Reads Handle) → in_order (map (read_of (listed w) w env base) items) ≡ Ok rs → Matches w base items rs
+  pub reads_match : w.same ≡ same_handle → (base : Heap) (items : List ReadItem) (rs : Reads Handle) → in_order (map (read_of (listed w) w env base) items) ≡ Ok rs → Matches w base items rs
   reads_match same base [] [] e = tt
   reads_match same base [] (r ∷ rs) e = absurd cc
   reads_match same base (item ∷ items) rs e =
@@ -259,7 +259,7 @@ module _ (w : Setting Handle) (funcs : List Func) (checked : AreChecked funcs) w
     needs_readable n = (n.0, readable n.0 n.1 n.2 n.3 n.4 n.0 (λ m x e. e))
 
     module _ (a : Action Handle) (asked : (heap : Heap) → Readable w env v heap (out-Stmt s) → action_of (listed w) w funcs env heap (out-Stmt s) ≡ Ok a) where
-      goes_at : (base : Heap) (st end : Standing) (m : series (s ∷ rest) st ≡ Some end) → Ready w st end.unwritten env v base → Goes w st (steps s rest st end m).mid env u base a
+      pub goes_at : (base : Heap) (st end : Standing) (m : series (s ∷ rest) st ≡ Some end) → Ready w st end.unwritten env v base → Goes w st (steps s rest st end m).mid env u base a
       goes_at base st end m r =
           let p = steps s rest st end m in
           let k = ready_looked w st end.unwritten env v u base l r in

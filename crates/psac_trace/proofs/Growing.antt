@@ -355,15 +355,15 @@ links_entered v u s e =
     }
 
 -- marks
-pub marks_none : (v : MarksView) → MoreMarks v v []
-marks_none v = record { marked = λ x. let a : times x [] ≡ 0 = refl in omega (arith, a); busy = λ x h. h }
+pub marks_none : (v : MarksView) → MoreMarks v v
+marks_none v = record { marked = λ x. omega arith; busy = λ x h. h }
 
-pub marks_then : (v u x : MarksView) → MoreMarks v u [] → MoreMarks u x [] → MoreMarks v x []
-marks_then v u x a b = record { marked = λ y. (let p = a.marked y in let q = b.marked y in let z : times y [] ≡ 0 = refl in omega (arith, p, q, z)); busy = λ y h. b.busy y (a.busy y h) }
+pub marks_then : (v u x : MarksView) → MoreMarks v u → MoreMarks u x → MoreMarks v x
+marks_then v u x a b = record { marked = λ y. (let p = a.marked y in let q = b.marked y in omega (arith, p, q)); busy = λ y h. b.busy y (a.busy y h) }
 
-pub marks_same : (v u : MarksView) → u.marked ≡ v.marked → u.busy ≡ v.busy → MoreMarks v u []
+pub marks_same : (v u : MarksView) → u.marked ≡ v.marked → u.busy ≡ v.busy → MoreMarks v u
 marks_same v u m b =
     record {
-      marked = λ x. let p = ap (times x) m in let z : times x [] ≡ 0 = refl in omega (arith, p, z);
+      marked = λ x. let p = ap (times x) m in omega (arith, p);
       busy = λ x h. ⊎_elim (λ (i : 0 < times x v.marked). inl (subst (λ z. 0 < times x z) (sym m) i)) (λ (i : 0 < times x v.busy). inr (subst (λ z. 0 < times x z) (sym b) i)) h;
     }

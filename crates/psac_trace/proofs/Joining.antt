@@ -164,7 +164,7 @@ module _ (shared to_right link_right : ℕ → Bool) (v l r j : ReadersView) (a 
       record { branch = ap (λ (z : ReadersView). z.claims.branch) is ∙ set_stem; mods = ap (λ (z : ReadersView). z.mods) is ∙ ml.mods; links = links_sum; walk = walk_sum; shared = sets_shared }
 
 -- marks, where both sides have all that isn't dropped
-module _ (v l r j : MarksView) (ml : MoreMarks (marks.left_of (both_have v) (λ x. false) v) l []) (mr : MoreMarks (marks.right_of (both_have v) (λ x. false) v) r []) (is : j ≡ marks.joined l r) where
+module _ (v l r j : MarksView) (ml : MoreMarks (marks.left_of (both_have v) (λ x. false) v) l) (mr : MoreMarks (marks.right_of (both_have v) (λ x. false) v) r) (is : j ≡ marks.joined l r) where
   goes_none : (x : ℕ) → marks.goes_over (both_have v) (λ y. false) v x ≡ false
   goes_none x = ap (λ t. ltb 0 (times x (map marks_rule.ways.slot v.own)) && t) (and_false (not (both_have v x))) ∙ and_false (ltb 0 (times x (map marks_rule.ways.slot v.own)))
 
@@ -176,7 +176,7 @@ module _ (v l r j : MarksView) (ml : MoreMarks (marks.left_of (both_have v) (λ 
       (λ (i : 0 < times x v.busy). inr (subst (λ z. 0 < times x z) (sym (keeps (v.busy ++ v.marked))) (let p = times_append x v.busy v.marked in omega (arith, p, i))))
       h
 
-  pub marks_joined : MoreMarks v j []
+  pub marks_joined : MoreMarks v j
   marks_joined =
       record {
         marked = λ x.
@@ -185,9 +185,7 @@ module _ (v l r j : MarksView) (ml : MoreMarks (marks.left_of (both_have v) (λ 
             let p = ml.marked x in
             let q = mr.marked x in
             let e = ap (times x) (keeps_all (λ y. not (marks.goes_over (both_have v) (λ z. false) v y)) v.marked (λ y i. ap not (goes_none y))) in
-            let f = ap (times x) (none_of (marks.goes_over (both_have v) (λ z. false) v) v.marked goes_none) in
-            let z : times x [] ≡ 0 = refl in
-            omega (arith, c, d, p, q, e, f, z);
+            omega (arith, c, d, p, q, e);
         busy = λ x h.
             subst (λ (z : MarksView). IsBusy z x) (sym is)
             (⊎_elim

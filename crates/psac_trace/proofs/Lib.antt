@@ -20,3 +20,9 @@ pub mod Moving
 pub mod Leaving
 pub mod Passes
 pub mod Reading
+pub mod Leading
+pub mod Raised
+pub mod Warning
+pub mod Behind
+pub mod Rousing
+pub mod Uniting

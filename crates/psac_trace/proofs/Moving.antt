@@ -38,7 +38,7 @@ use Rattle.psac_trace.proofs.Fitting.{sets_values, sets_claimed, sets_links, set
 use Rattle.psac_trace.proofs.Views.{kept_same, kept_then, kept_looked, claimed_kept, claimed_cases, wrote_kept, wrote_from}
 use Rattle.psac_trace.proofs.Forks.{joined_kept}
 
-entry_member : (h : Handle) (list : List Handle) (n : ℕ) → entry list n ≡ h ∷ [] → Member h list
+pub entry_member : (h : Handle) (list : List Handle) (n : ℕ) → entry list n ≡ h ∷ [] → Member h list
 entry_member h list n e = entry_in h list n (subst (Member h) (sym e) (inl refl))
 
 pub each_cap : (P : CapKind → Type 0) → P cap.Nodes → P cap.Mods → P cap.Links → (c : CapKind) → P c
@@ -130,7 +130,7 @@ module _ (t : Tables) (p q : Pass) (of : IsOf p t) (tidy : Tidy p.values.knows) 
           values = m;
           nodes = subst (λ z. MoreNodes p.marks.knows z []) (sym marks_is) (nodes_none p.marks.knows);
           links = subst (λ z. MoreLinks p.readers.knows z []) (sym readers_is) (links_none p.readers.knows);
-          marks = subst (λ z. MoreMarks p.marks.knows z []) (sym marks_is) (marks_none p.marks.knows);
+          marks = subst (λ z. MoreMarks p.marks.knows z) (sym marks_is) (marks_none p.marks.knows);
         }
 
     pub moves_looked : Looked p.values.knows q.values.knows → Moves t p q nothing
@@ -197,7 +197,7 @@ module _ (t : Tables) (p q : Pass) (of : IsOf p t) (tidy : Tidy p.values.knows) 
     pub marks_room : HasRoom p → q.marks.knows.claims.over ≡ 0 → HasRoom q
     marks_room h o = (subst (λ z. z.knows.claims.over ≡ 0) (sym b.values) h.0, subst (λ z. z.knows.claims.over ≡ 0) (sym b.readers) h.1, o)
 
-    marks_moved : (nodes : List OwnView) → Rooted q.marks.knows → MoreClaims p.marks.knows.claims q.marks.knows.claims (length nodes) → MoreNodes p.marks.knows q.marks.knows nodes → MoreMarks p.marks.knows q.marks.knows [] → Moves t p q (record { mods = []; nodes = nodes; links = [] })
+    marks_moved : (nodes : List OwnView) → Rooted q.marks.knows → MoreClaims p.marks.knows.claims q.marks.knows.claims (length nodes) → MoreNodes p.marks.knows q.marks.knows nodes → MoreMarks p.marks.knows q.marks.knows → Moves t p q (record { mods = []; nodes = nodes; links = [] })
     marks_moved nodes r c m k =
         let made : Made = record { mods = []; nodes = nodes; links = [] } in
         let readers_is : q.readers.knows ≡ p.readers.knows = ap (λ z. z.knows) b.readers in
@@ -254,7 +254,7 @@ module _ (t : Tables) (p q : Pass) (of : IsOf p t) (tidy : Tidy p.values.knows) 
           values = subst (λ z. MoreValues p.values.knows z []) (sym values_is) (values_none p.values.knows);
           nodes = subst (λ z. MoreNodes p.marks.knows z []) (sym marks_is) (nodes_none p.marks.knows);
           links = m;
-          marks = subst (λ z. MoreMarks p.marks.knows z []) (sym marks_is) (marks_none p.marks.knows);
+          marks = subst (λ z. MoreMarks p.marks.knows z) (sym marks_is) (marks_none p.marks.knows);
         }
 
     pub moves_link : (s : Stands) → readers.Entered p.readers.knows s.of.slot (word_of s.node) s.link.index q.readers.knows → ((x : ℕ) → readers.Has x p.readers.knows → readers.Has x q.readers.knows) → Moves t p q (links_only (s ∷ []))
@@ -390,7 +390,7 @@ module _ (t : Tables) (p l k : Pass) (ls rs : List Stmt) (env : Env Handle) (fit
           values = values_joined S T p.values.knows l'.values.knows k'.values.knows j.values.knows a.mods b.mods tidy kl kk jv un (subst (λ z. MoreValues z l'.values.knows a.mods) lv ml.values) (subst (λ z. MoreValues z k'.values.knows b.mods) kv mk.values);
           nodes = nj;
           links = links_joined D T N p.readers.knows l'.readers.knows k'.readers.knows j.readers.knows a.links b.links fit.sets.labels el ek jr;
-          marks = marks_joined p.marks.knows l'.marks.knows k'.marks.knows j.marks.knows (subst (λ z. MoreMarks z l'.marks.knows []) lm ml.marks) (subst (λ z. MoreMarks z k'.marks.knows []) km mk.marks) jm;
+          marks = marks_joined p.marks.knows l'.marks.knows k'.marks.knows j.marks.knows (subst (λ z. MoreMarks z l'.marks.knows) lm ml.marks) (subst (λ z. MoreMarks z k'.marks.knows) km mk.marks) jm;
         }
 
     -- a table that is full on a side is full

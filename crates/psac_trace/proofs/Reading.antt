@@ -60,7 +60,7 @@ module _ (t : Tables) (p q : Pass) (of : IsOf p t) (tidy : Tidy p.values.knows) 
       let new : OwnView = record { node = h; parent = slot_of par } in
       let own_is : u.own ≡ new ∷ p.marks.knows.own = ap (λ (z : MarksView). z.own) c.becomes in
       let here : Member new u.own = subst (Member new) (sym own_is) (inl refl) in
-      (record { moves = moves_node t p q of tidy fit b h par kept c; same = ap (λ z. z.knows) b.values; room = marks_room t p q of tidy fit b room o }, (marks_rule.own_place u.claims.branch new, member_left (marks_rule.own_place u.claims.branch new) (map (marks_rule.own_place u.claims.branch) u.own) (map marks_rule.shared_place u.shared) (map_member (marks_rule.own_place u.claims.branch) new u.own here), refl, k))
+      (record { moves = moves_node t p q of tidy fit b h par kept c; same = ap (λ z. z.knows) b.values; quiet = ap (λ (z : MarksView). z.marked) c.becomes; room = marks_room t p q of tidy fit b room o }, (marks_rule.own_place u.claims.branch new, member_left (marks_rule.own_place u.claims.branch new) (map (marks_rule.own_place u.claims.branch) u.own) (map marks_rule.shared_place u.shared) (map_member (marks_rule.own_place u.claims.branch) new u.own here), refl, k))
 
   pub node_halts : (h : Handle) (par : Option Handle) (at : Full) → at.room ≡ length p.marks.knows.claims.list → at.room ≤ at.index → q.marks.knows ≡ marks.drew p.marks.knows at.index → HaltsFor t p q (nodes_only ((h, par) ∷ [])) (halt.Full cap.Nodes at)
   node_halts h par at list past e =
@@ -150,7 +150,7 @@ whole_length node all seen =
 
 module _ (t : Tables) (p q : Pass) (of : IsOf p t) (tidy : Tidy p.values.knows) (fit : Fit p) (room : HasRoom p) (b : BesideReaders p q) where
   pub link_opens : (s : Stands) → readers.Entered p.readers.knows s.of.slot (word_of s.node) s.link.index q.readers.knows → ((x : ℕ) → readers.Has x p.readers.knows → readers.Has x q.readers.knows) → q.readers.knows.claims.over ≡ 0 → Opens t p q (links_only (s ∷ []))
-  link_opens s e has o = record { moves = moves_link t p q of tidy fit b s e has; same = ap (λ z. z.knows) b.values; room = readers_room t p q of tidy fit b room o }
+  link_opens s e has o = record { moves = moves_link t p q of tidy fit b s e has; same = ap (λ z. z.knows) b.values; quiet = ap (λ z. z.knows.marked) b.marks; room = readers_room t p q of tidy fit b room o }
 
   pub link_halts : (s : Stands) (at : Full) → at.room ≡ length p.readers.knows.claims.list → at.room ≤ at.index → q.readers.knows ≡ readers.drew p.readers.knows at.index → HaltsFor t p q (links_only (s ∷ [])) (halt.Full cap.Links at)
   link_halts s at list past e =
@@ -174,7 +174,7 @@ module _ (t : Tables) (p u q : Pass) (node : Handle) (all : List Linked) (op : O
   link_next s more one is =
       let both = moves_then t p u q (links_only (map (stands node) all)) (links_only (stands node s ∷ [])) op.moves one.moves in
       let list : map (stands node) all ++ stands node s ∷ [] ≡ map (stands node) more = sym (map_push (stands node) all s) ∙ ap (map (stands node)) (sym is) in
-      record { moves = subst (λ z. Moves t p q (links_only z)) list both; same = one.same ∙ op.same; room = one.room }
+      record { moves = subst (λ z. Moves t p q (links_only z)) list both; same = one.same ∙ op.same; quiet = one.quiet ∙ op.quiet; room = one.room }
 
   pub link_stops : (s : Stands) (seen : List Seen) (h : Halt) → 0 < length seen → HaltsFor t u q (links_only (s ∷ [])) h → HaltsFor t p q (links_only (map (stands node) (all ++ map unlinked seen))) h
   link_stops s seen h more w =
@@ -186,7 +186,7 @@ module _ (t : Tables) (p u q : Pass) (node : Handle) (all : List Linked) (op : O
       halts_more t p q a rest h refl (omega arith) (omega (arith, n, k, more)) (halts_then t p u q (links_only ls) (links_only (s ∷ [])) h op.moves op.same w)
 
 pub none_linked : (t : Tables) (p : Pass) (node : Handle) (all : List Linked) → all ≡ [] → IsOf p t → Tidy p.values.knows → Fit p → HasRoom p → Opens t p p (links_only (map (stands node) all))
-none_linked t p node all e of tidy fit room = subst (λ z. Opens t p p (links_only (map (stands node) z))) (sym e) (record { moves = moves_none t p of tidy fit; same = refl; room = room })
+none_linked t p node all e of tidy fit room = subst (λ z. Opens t p p (links_only (map (stands node) z))) (sym e) (record { moves = moves_none t p of tidy fit; same = refl; quiet = refl; room = room })
 
 -- want of memory for a link that was entered
 pub link_lost : (t : Tables) (p q : Pass) (node : Handle) (all more : List Linked) (s : Linked) (seen : List Seen) → 0 < length seen → more ≡ all ++ s ∷ [] → Opens t p q (links_only (map (stands node) more)) → HaltsFor t p q (links_only (map (stands node) (all ++ map unlinked seen))) halt.NoMemory
@@ -234,6 +234,7 @@ module _ (t : Tables) (p p1 p2 p3 : Pass) (par : Option Handle) (node : Handle) 
         record {
           moves = subst (λ x. Moves t p p3 (whole x ((map (stands r.node) r.reads ++ []) ++ []))) (sym n) (subst (λ ls. Moves t p p3 (whole block ls)) list both);
           same = op.same ∙ two.same ∙ one.same;
+          quiet = op.quiet ∙ two.quiet ∙ one.quiet;
           room = op.room;
         }
 

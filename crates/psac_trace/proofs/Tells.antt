@@ -157,7 +157,7 @@ module _ (w : Setting Handle) (room : ℕ) (deep : Tracing Handle) (first : Cuts
     abbrev one_write : Heap
     one_write = (m, plain_value p) ∷ []
 
-    gone : (st mid end : Standing) (d : ℕ) → has d st.unwritten ≡ true → settled (without (d ∷ []) st.unwritten) st ≡ mid → series rest mid ≡ Some end → has d end.unwritten ≡ false
+    pub gone : (st mid end : Standing) (d : ℕ) → has d st.unwritten ≡ true → settled (without (d ∷ []) st.unwritten) st ≡ mid → series rest mid ≡ Some end → has d end.unwritten ≡ false
     gone st mid end d u q more =
         narrow rest st mid end (without (d ∷ []) st.unwritten) q more d u (not_true (has d (without (d ∷ []) st.unwritten)) (λ j. not_both (or_left (d == d) false (nat_same d)) (has_without d (d ∷ []) st.unwritten j).1))
 
@@ -170,7 +170,7 @@ module _ (w : Setting Handle) (room : ℕ) (deep : Tracing Handle) (first : Cuts
     put_moved : (base : Heap) (st mid end : Standing) → series rest mid ≡ Some end → Ready w st end.unwritten env v base → (g : Goes w st mid env v base (Put m (plain_value p))) → Moved st (without (g.0 ∷ []) st.unwritten) env v wrote_view base one_write
     put_moved base st mid end more r g = moved_put w st end.unwritten env v base g.0 m p ws r tv g.1 (gone st mid end g.0 g.1 g.2 more) g.3 g.4 is
 
-    put_ready : (base : Heap) (st mid end : Standing) → series rest mid ≡ Some end → Ready w st end.unwritten env v base → Has v m → (g : Goes w st mid env v base (Put m (plain_value p))) → Ready w mid end.unwritten env wrote_view (one_write ++ base)
+    pub put_ready : (base : Heap) (st mid end : Standing) → series rest mid ≡ Some end → Ready w st end.unwritten env v base → Has v m → (g : Goes w st mid env v base (Put m (plain_value p))) → Ready w mid end.unwritten env wrote_view (one_write ++ base)
     put_ready base st mid end more r mine g =
         let left = without (g.0 ∷ []) st.unwritten in
         subst (λ z. Ready w z end.unwritten env wrote_view (one_write ++ base)) g.2
@@ -196,7 +196,7 @@ module _ (w : Setting Handle) (room : ℕ) (deep : Tracing Handle) (first : Cuts
 
   -- what a compound statement leaves, before the rest
   module _ (a : Action Handle) (u : ValueView) (ku : Kept v u) (base : Heap) (st mid end : Standing) (more : series rest mid ≡ Some end) (r : Ready w st end.unwritten env v base) (left : List ℕ) (within : all_in left st.unwritten ≡ true) (q : settled left st ≡ mid) where
-    seq_ready : (ws : Heap) → Moved st left env v u base ws → Ready w mid end.unwritten env u (ws ++ base)
+    pub seq_ready : (ws : Heap) → Moved st left env v u base ws → Ready w mid end.unwritten env u (ws ++ base)
     seq_ready ws mv = subst (λ z. Ready w z end.unwritten env u (ws ++ base)) q (ready_next w st left end.unwritten env v u base ws r within (narrow rest st mid end left q more) mv ku)
 
     seq_told : (x : ValueView) (kx : Kept u x) (t : Rec Handle) → Moved st left env v u base (writes t) → Fresh (writes t) base
@@ -213,7 +213,7 @@ module _ (w : Setting Handle) (room : ℕ) (deep : Tracing Handle) (first : Cuts
         e (told (writes t ++ base) mid end more (seq_ready (writes t) mv))
 
   -- if and call
-  inner_moved : (st mid : Standing) (base : Heap) (body : List Stmt) (inner : Env Handle) (g : Enters w st mid env v base body inner) (u : ValueView) (ws : Heap) → Moved g.names g.end.unwritten inner v u base ws → Moved st g.left env v u base ws
+  pub inner_moved : (st mid : Standing) (base : Heap) (body : List Stmt) (inner : Env Handle) (g : Enters w st mid env v base body inner) (u : ValueView) (ws : Heap) → Moved g.names g.end.unwritten inner v u base ws → Moved st g.left env v u base ws
   inner_moved st mid base body inner g u ws mv =
       record { closed = mv.closed; sees = mv.sees; done = λ m t. mv.done m (g.into m t); spares = λ m h i. g.out m (mv.spares m h i); owned = mv.owned }
 
@@ -280,7 +280,7 @@ module _ (w : Setting Handle) (room : ℕ) (deep : Tracing Handle) (first : Cuts
     abbrev BothTold : ValueView → Ended (Rec Handle) → Type 0
     BothTold j e = TellsBoth w room deep first ls rs rest env v j e
 
-    both_within : (st mid : Standing) (p : Parts st mid ls rs) → all_in (in_both p.one p.two) st.unwritten ≡ true
+    pub both_within : (st mid : Standing) (p : Parts st mid ls rs) → all_in (in_both p.one p.two) st.unwritten ≡ true
     both_within st mid p = both_in p.one p.two st.unwritten (leaves (map series_of ls) st p.one p.first).within
 
     pub needs_par_on : (j : ValueView) (t : Rec Handle) → Kept v j → NeedsAct w (Sides ls rs) rest env v → BothTold j (Good t) → Needs w rest env j
@@ -320,10 +320,10 @@ module _ (w : Setting Handle) (room : ℕ) (deep : Tracing Handle) (first : Cuts
     paired_second base a b e f ta tb =
         record { run = λ heap wi. (ta.run heap wi, tb.run (writes a ++ heap) (within_front (writes a) base heap wi)); fresh = fresh_then base (writes a) (writes b) ta.fresh tb.fresh }
 
-    left_end : (st mid : Standing) (p : Parts st mid ls rs) → (end : Standing) × (series ls st ≡ Some end) × (end.unwritten ≡ p.one)
+    pub left_end : (st mid : Standing) (p : Parts st mid ls rs) → (end : Standing) × (series ls st ≡ Some end) × (end.unwritten ≡ p.one)
     left_end st mid p = let l = leaves (map series_of ls) st p.one p.first in (l.end, l.meets, l.unwritten)
 
-    right_end : (st mid : Standing) (p : Parts st mid ls rs) → (end : Standing) × (series rs st ≡ Some end) × (end.unwritten ≡ p.two)
+    pub right_end : (st mid : Standing) (p : Parts st mid ls rs) → (end : Standing) × (series rs st ≡ Some end) × (end.unwritten ≡ p.two)
     right_end st mid p = let l = leaves (map series_of rs) st p.two p.second in (l.end, l.meets, l.unwritten)
 
     -- on two forked passes
@@ -334,7 +334,7 @@ module _ (w : Setting Handle) (room : ℕ) (deep : Tracing Handle) (first : Cuts
       abbrev K : ValueView
       K = right_of (neither ls rs env) (writes_slot rs env) v
 
-      part_narrow : (st mid end : Standing) → series rest mid ≡ Some end → (p : Parts st mid ls rs) → Narrow st (in_both p.one p.two) end.unwritten
+      pub part_narrow : (st mid end : Standing) → series rest mid ≡ Some end → (p : Parts st mid ls rs) → Narrow st (in_both p.one p.two) end.unwritten
       part_narrow st mid end more p = narrow rest st mid end (in_both p.one p.two) p.settles more
 
       pub needs_left : NeedsAct w (Sides ls rs) rest env v → Needs w ls env L
@@ -350,13 +350,13 @@ module _ (w : Setting Handle) (room : ℕ) (deep : Tracing Handle) (first : Cuts
           (n.0, n.1, e.0, e.1, subst (λ z. Ready w n.1 z env K n.0) (sym e.2) (ready_right w n.1 n.2 n.3.unwritten env v n.0 ls rs p tv n.5 (part_narrow n.1 n.2 n.3 n.4 p)))
 
       module _ (l k j : ValueView) (kl : Kept L l) (kk : Kept K k) (is : j ≡ joined l k) (un : United l k j) where
-        left_told : (one : Ended (Rec Handle)) → Tells w deep first ls env L l one → (base : Heap) (st mid end : Standing) → series rest mid ≡ Some end → Ready w st end.unwritten env v base → (p : Parts st mid ls rs) → Told deep first ls st p.one env L l base one
+        pub left_told : (one : Ended (Rec Handle)) → Tells w deep first ls env L l one → (base : Heap) (st mid end : Standing) → series rest mid ≡ Some end → Ready w st end.unwritten env v base → (p : Parts st mid ls rs) → Told deep first ls st p.one env L l base one
         left_told one t base st mid end more r p =
             let e = left_end st mid p in
             let ready = ready_left w st mid end.unwritten env v base ls rs p tv r (part_narrow st mid end more p) in
             subst (λ z. Told deep first ls st z env L l base one) e.2 (t base st e.0 e.1 (subst (λ z. Ready w st z env L base) (sym e.2) ready))
 
-        right_told : (two : Ended (Rec Handle)) → Tells w deep first rs env K k two → (base : Heap) (st mid end : Standing) → series rest mid ≡ Some end → Ready w st end.unwritten env v base → (p : Parts st mid ls rs) → Told deep first rs st p.two env K k base two
+        pub right_told : (two : Ended (Rec Handle)) → Tells w deep first rs env K k two → (base : Heap) (st mid end : Standing) → series rest mid ≡ Some end → Ready w st end.unwritten env v base → (p : Parts st mid ls rs) → Told deep first rs st p.two env K k base two
         right_told two t base st mid end more r p =
             let e = right_end st mid p in
             let ready = ready_right w st mid end.unwritten env v base ls rs p tv r (part_narrow st mid end more p) in
@@ -393,7 +393,7 @@ module _ (w : Setting Handle) (room : ℕ) (deep : Tracing Handle) (first : Cuts
             both_told short base st mid end more r p one two zl zk (left_told one tl base st mid end more r p) (right_told two tr base st mid end more r p)
 
     -- one after the other on one pass
-    first_ready : (base : Heap) (st mid end : Standing) → series rest mid ≡ Some end → Ready w st end.unwritten env v base → (p : Parts st mid ls rs) → Ready w st p.one env v base
+    pub first_ready : (base : Heap) (st mid end : Standing) → series rest mid ≡ Some end → Ready w st end.unwritten env v base → (p : Parts st mid ls rs) → Ready w st p.one env v base
     first_ready base st mid end more r p = ready_inner w st p.one end.unwritten env v base (λ x u e. narrow rest st mid end (in_both p.one p.two) p.settles more x u (not_true (has x (in_both p.one p.two)) (λ i. not_both (has_both x p.one p.two i).0 e))) r
 
     pub needs_first : NeedsAct w (Sides ls rs) rest env v → Needs w ls env v
@@ -403,12 +403,12 @@ module _ (w : Setting Handle) (room : ℕ) (deep : Tracing Handle) (first : Cuts
         (n.0, n.1, e.0, e.1, subst (λ z. Ready w n.1 z env v n.0) (sym e.2) (first_ready n.0 n.1 n.2 n.3 n.4 n.5 p))
 
     module _ (tv : Tidy v) (u : ValueView) (ku : Kept v u) where
-      first_told : (one : Ended (Rec Handle)) → Tells w deep first ls env v u one → (base : Heap) (st mid end : Standing) → series rest mid ≡ Some end → Ready w st end.unwritten env v base → (p : Parts st mid ls rs) → Told deep first ls st p.one env v u base one
+      pub first_told : (one : Ended (Rec Handle)) → Tells w deep first ls env v u one → (base : Heap) (st mid end : Standing) → series rest mid ≡ Some end → Ready w st end.unwritten env v base → (p : Parts st mid ls rs) → Told deep first ls st p.one env v u base one
       first_told one t base st mid end more r p =
           let e = left_end st mid p in
           subst (λ z. Told deep first ls st z env v u base one) e.2 (t base st e.0 e.1 (subst (λ z. Ready w st z env v base) (sym e.2) (first_ready base st mid end more r p)))
 
-      second_ready : (base : Heap) (st mid end : Standing) → series rest mid ≡ Some end → Ready w st end.unwritten env v base → (p : Parts st mid ls rs) → (one : Heap) → Moved st p.one env v u base one → Ready w st p.two env u (one ++ base)
+      pub second_ready : (base : Heap) (st mid end : Standing) → series rest mid ≡ Some end → Ready w st end.unwritten env v base → (p : Parts st mid ls rs) → (one : Heap) → Moved st p.one env v u base one → Ready w st p.two env u (one ++ base)
       second_ready base st mid end more r p one mv = ready_second w st mid end.unwritten env v base ls rs p tv r (narrow rest st mid end (in_both p.one p.two) p.settles more) u ku one mv
 
       -- where the right side is left out

@@ -42,10 +42,10 @@ module _ (v u : ValueView) (m : Handle) (c : Claims v m u) (l : Lacks v m.slot) 
   abbrev new_one : OwnedView
   new_one = new_owned v.fixed c.1
 
-  mine_is : u.mine ≡ v.mine ++ new_one ∷ []
+  pub mine_is : u.mine ≡ v.mine ++ new_one ∷ []
   mine_is = ap (λ (z : ValueView). z.mine) c.5 ∙ ap (λ es. v.mine ++ map (new_owned v.fixed) es) c.3
 
-  known_is : u.known ≡ v.known
+  pub known_is : u.known ≡ v.known
   known_is = ap (λ (z : ValueView). z.known) c.5
 
   branch_is : u.claims.branch ≡ v.claims.branch

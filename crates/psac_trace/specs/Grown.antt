@@ -68,9 +68,9 @@ pub record MoreNodes (v u : MarksView) (made : List OwnView) : Type 0 where
 
 -- marks
 
--- these were marked
-pub record MoreMarks (v u : MarksView) (marks : List ℕ) : Type 0 where
-  pub marked : (x : ℕ) → times x u.marked ≡ times x v.marked + times x marks
+-- marks were only added
+pub record MoreMarks (v u : MarksView) : Type 0 where
+  pub marked : (x : ℕ) → times x v.marked ≤ times x u.marked
   pub busy : (x : ℕ) → IsBusy v x → IsBusy u x
 
 -- links
@@ -123,8 +123,7 @@ pub record Moves (t : Tables) (p q : Pass) (m : Made) : Type 0 where
   pub values : MoreValues p.values.knows q.values.knows m.mods
   pub nodes : MoreNodes p.marks.knows q.marks.knows m.nodes
   pub links : MoreLinks p.readers.knows q.readers.knows m.links
-  -- no mark was raised
-  pub marks : MoreMarks p.marks.knows q.marks.knows []
+  pub marks : MoreMarks p.marks.knows q.marks.knows
 
 -- a table that is full: the index that was drawn, and the length of the free list
 pub record Cause : Type 0 where

@@ -31,6 +31,8 @@ use Rattle.psac_trace.specs.declared.halt.Halt.TheVariants as halt
 use Rattle.psac_trace.specs.Fit.{Fit, ParentKept}
 use Rattle.psac_trace.specs.Grown.{Made, made_below, count, as_own, Moves, Cause, IsFull}
 use Rattle.psac_trace.specs.Rights.{Heap, held, In, Within, Wider, Named, Sees, Target, Tidy, Ready, Moved}
+use Rattle.psac_trace.specs.Raising.{Aged, Raisable, Warns, RaisesBy}
+use Rattle.psac_slots.specs.Handles.{Member}
 use Rattle.psac_trace.specs.Told.{Ended, Good, Fault, Other, Told, Needs, Tells, AreChecked, then_ended, bared, Follows}
 
 -- where a call ends with a record or a fault, no index was drawn past the room
@@ -56,7 +58,7 @@ FullBy p q (Other k (Some c)) = IsFull p q c
 FullBy p q e = Unit {0}
 
 -- what a run of statements begins with: also, that what it makes stands below a node that is kept
-pub record Begins (w : Setting Handle) (funcs : List Func) (t : Tables) (body : List Stmt) (env : Env Handle) (par : Option Handle) (p : Pass) : Type 0 where
+pub record Begins (w : Setting Handle) (funcs : List Func) (olds : List Handle) (t : Tables) (body : List Stmt) (env : Env Handle) (par : Option Handle) (p : Pass) : Type 0 where
   pub of : IsOf p t
   pub checked : AreChecked funcs
   pub room : HasRoom p
@@ -64,14 +66,16 @@ pub record Begins (w : Setting Handle) (funcs : List Func) (t : Tables) (body : 
   pub fit : Fit p
   pub parent : ParentKept par p.marks.knows
   pub needs : Needs w body env p.values.knows
+  pub warns : Warns w olds body env p
 
 -- what a run of statements leaves
-pub record Leaves (w : Setting Handle) (deep : Tracing Handle) (first : Cuts Handle) (t : Tables) (body : List Stmt) (env : Env Handle) (par : Option Handle) (p q : Pass) (e : Ended Kept) : Type 0 where
+pub record Leaves (w : Setting Handle) (deep : Tracing Handle) (first : Cuts Handle) (olds : List Handle) (t : Tables) (body : List Stmt) (env : Env Handle) (par : Option Handle) (p q : Pass) (e : Ended Kept) : Type 0 where
   pub made : Made
   pub moves : Moves t p q made
   pub all : AllMade (made_below par) q made e
   pub room : RoomAfter q e
   pub full : FullBy p q e
+  pub raises : RaisesBy olds p q e
   pub tells : Tells w deep first body env p.values.knows q.values.knows (bared e)
 
 -- an inner body begins as it needs, and writes the destinations that the statement is to write
@@ -111,12 +115,30 @@ NeedsAct w a rest env v = (base : Heap) × (st : Standing) × (mid : Standing) �
 abbrev pub TellsAct : Setting Handle → ℕ → Tracing Handle → Cuts Handle → Action Handle → List Stmt → Env Handle → ValueView → ValueView → Ended (Rec Handle) → Type 0
 TellsAct w room deep first a rest env v u e = (base : Heap) (st mid end : Standing) → series rest mid ≡ Some end → Ready w st end.unwritten env v base → Goes w st mid env v base a → Told (acts room deep a) (cuts room deep first a) rest st end.unwritten env v u base e
 
+-- what a read block read the base has
+abbrev pub Saw : Heap → Action Handle → Type 0
+Saw base (Block block reads body inner) = EachOf (λ m x. held base m ≡ Some x) reads
+Saw base a = Unit {0}
+
+-- where a pass is ready for what is asked for, it can raise the readers of each old destination that is to be written
+pub record WarnsAct (w : Setting Handle) (olds : List Handle) (a : Action Handle) (rest : List Stmt) (env : Env Handle) (p : Pass) : Type 0 where
+  pub aged : Aged olds p.values.knows
+  pub base : Heap
+  pub st : Standing
+  pub mid : Standing
+  pub end : Standing
+  pub meets : series rest mid ≡ Some end
+  pub ready : Ready w st end.unwritten env p.values.knows base
+  pub goes : Goes w st mid env p.values.knows base a
+  pub saw : Saw base a
+  pub may : (m : Handle) → Member m olds → Target st end.unwritten env m → Raisable p m
+
 -- what a read block read the pass knows
 abbrev pub Sights : Action Handle → ValueView → Type 0
 Sights (Block block reads body inner) v = EachOf (Sees v) reads
 Sights a v = Unit {0}
 
-pub record BeginsAct (w : Setting Handle) (funcs : List Func) (t : Tables) (a : Action Handle) (rest : List Stmt) (env : Env Handle) (par : Option Handle) (p : Pass) : Type 0 where
+pub record BeginsAct (w : Setting Handle) (funcs : List Func) (olds : List Handle) (t : Tables) (a : Action Handle) (rest : List Stmt) (env : Env Handle) (par : Option Handle) (p : Pass) : Type 0 where
   pub of : IsOf p t
   pub checked : AreChecked funcs
   pub room : HasRoom p
@@ -125,25 +147,27 @@ pub record BeginsAct (w : Setting Handle) (funcs : List Func) (t : Tables) (a : 
   pub parent : ParentKept par p.marks.knows
   pub sights : Sights a p.values.knows
   pub needs : NeedsAct w a rest env p.values.knows
+  pub warns : WarnsAct w olds a rest env p
 
-pub record LeavesAct (w : Setting Handle) (level : ℕ) (deep : Tracing Handle) (first : Cuts Handle) (t : Tables) (a : Action Handle) (rest : List Stmt) (env : Env Handle) (par : Option Handle) (p q : Pass) (e : Ended Kept) : Type 0 where
+pub record LeavesAct (w : Setting Handle) (level : ℕ) (deep : Tracing Handle) (first : Cuts Handle) (olds : List Handle) (t : Tables) (a : Action Handle) (rest : List Stmt) (env : Env Handle) (par : Option Handle) (p q : Pass) (e : Ended Kept) : Type 0 where
   pub made : Made
   pub moves : Moves t p q made
   pub all : AllMade (made_below par) q made e
   pub room : RoomAfter q e
   pub full : FullBy p q e
+  pub raises : RaisesBy olds p q e
   pub tells : TellsAct w level deep first a rest env p.values.knows q.values.knows (bared e)
 
 -- behind a compound statement, whose node this is and which ended so, the rest begins where that is done
-abbrev pub BeginsAfter : Setting Handle → List Func → Tables → Handle → Ended Kept → List Stmt → Env Handle → Pass → Type 0
-BeginsAfter w funcs t node (Good k) rest env p = Begins w funcs t rest env (Some node) p
-BeginsAfter w funcs t node e rest env p = Unit {0}
+abbrev pub BeginsAfter : Setting Handle → List Func → List Handle → Tables → Handle → Ended Kept → List Stmt → Env Handle → Pass → Type 0
+BeginsAfter w funcs olds t node (Good k) rest env p = Begins w funcs olds t rest env (Some node) p
+BeginsAfter w funcs olds t node e rest env p = Unit {0}
 
 -- and what it leaves then; else nothing happens
-abbrev pub LeavesAfter : Setting Handle → Tracing Handle → Cuts Handle → Tables → Handle → Ended Kept → List Stmt → Env Handle → Pass → Pass → Ended Kept → Type 0
-LeavesAfter w deep first t node (Good k) rest env p q e = (o : Ended Kept) × Leaves w deep first t rest env (Some node) p q o × Follows (then_ended (S node k) o) e
-LeavesAfter w deep first t node (Fault k i n) rest env p q e = (q ≡ p) × (e ≡ Fault (S node k E) i n)
-LeavesAfter w deep first t node (Other k why) rest env p q e = (q ≡ p) × (e ≡ Other (S node k E) why)
+abbrev pub LeavesAfter : Setting Handle → Tracing Handle → Cuts Handle → List Handle → Tables → Handle → Ended Kept → List Stmt → Env Handle → Pass → Pass → Ended Kept → Type 0
+LeavesAfter w deep first olds t node (Good k) rest env p q e = (o : Ended Kept) × Leaves w deep first olds t rest env (Some node) p q o × Follows (then_ended (S node k) o) e
+LeavesAfter w deep first olds t node (Fault k i n) rest env p q e = (q ≡ p) × (e ≡ Fault (S node k E) i n)
+LeavesAfter w deep first olds t node (Other k why) rest env p q e = (q ≡ p) × (e ≡ Other (S node k E) why)
 
 -- nodes and links
 
@@ -151,6 +175,7 @@ LeavesAfter w deep first t node (Other k why) rest env p q e = (q ≡ p) × (e �
 pub record Opens (t : Tables) (p q : Pass) (made : Made) : Type 0 where
   pub moves : Moves t p q made
   pub same : q.values.knows ≡ p.values.knows
+  pub quiet : q.marks.knows.marked ≡ p.marks.knows.marked
   pub room : HasRoom q
 
 -- there was want of slots or of memory; this was begun, and no words changed
@@ -205,10 +230,11 @@ TellsBoth w room deep first ls rs rest env v u e =
     (base : Heap) (st mid end : Standing) → series rest mid ≡ Some end → Ready w st end.unwritten env v base → (p : Parts st mid ls rs) → Both room deep first ls rs rest env v st (in_both p.one p.two) u base e
 
 -- what both sides leave
-pub record LeavesBoth (w : Setting Handle) (level : ℕ) (deep : Tracing Handle) (first : Cuts Handle) (t : Tables) (ls rs rest : List Stmt) (env : Env Handle) (par : Option Handle) (p q : Pass) (e : Ended Kept) : Type 0 where
+pub record LeavesBoth (w : Setting Handle) (level : ℕ) (deep : Tracing Handle) (first : Cuts Handle) (olds : List Handle) (t : Tables) (ls rs rest : List Stmt) (env : Env Handle) (par : Option Handle) (p q : Pass) (e : Ended Kept) : Type 0 where
   pub made : Made
   pub moves : Moves t p q made
   pub all : AllMade (made_below par) q made e
   pub room : RoomAfter q e
   pub full : FullBy p q e
+  pub raises : RaisesBy olds p q e
   pub tells : TellsBoth w level deep first ls rs rest env p.values.knows q.values.knows (bared e)

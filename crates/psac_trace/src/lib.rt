@@ -8,3 +8,4 @@ pub mod halt;
 pub mod nodes;
 pub mod put;
 pub mod run;
+pub mod warn;

@@ -7,6 +7,7 @@ ghost use Rattle.psac_plain.specs.Slots.{env_of};
 ghost use Rattle.psac_plain.specs.Running.{reads_view};
 ghost use Rattle.psac_record.specs.Kept.{Kept, E, A, W, S, P, R};
 ghost use Rattle.psac_record.specs.Shown.{kept_of};
+ghost use Rattle.psac_trace.specs.Raising.{olds_after};
 ghost use Rattle.psac_trace.specs.Told.{did, ended_of, both_ended, then_ended, Follows, is_other, halted, stop_ended};
 
 use crate::halt::Halt;
@@ -66,6 +67,17 @@ pub fn ran_out(t: &Result<Record, Halt>) -> bool
         Ok(_) => false,
         Err(Halt::Fault(..)) => false,
         Err(_) => true,
+    }
+}
+
+/// The old destinations of a side that runs after another one on its pass. After a fault the record is thrown away, and nobody
+/// has to be marked.
+pub fn still_old<'a>(olds: &'a [Handle], t: &Result<Record, Halt>) -> &'a [Handle]
+    ensures { (k : Kept) → result.now ≡ olds_after olds.now (ended_of k t.now) }
+{
+    match t {
+        Ok(_) => olds,
+        Err(_) => &[],
     }
 }
 

@@ -18,8 +18,10 @@ use crate::ground::Ground;
 use crate::halt::Halt;
 use crate::nodes::{opened, stepped};
 use crate::put::{
-    after_made, after_step, after_wrote, bound_in, entered, in_block, paired, ran_out, stopped,
+    after_made, after_step, after_wrote, bound_in, entered, in_block, paired, ran_out, still_old,
+    stopped,
 };
+use crate::warn::warned;
 use psac_fork::{Crew, Gate, Pass, Tables, both};
 use psac_model::{CapKind, FaultKind};
 use psac_ops::{Handle, Plain, TextId, to_words};
@@ -30,7 +32,8 @@ use psac_syntax::{Func, ReadItem, Stmt};
 use std::alloc::Global;
 use std::thread::Threads;
 
-/// Runs statements from a level on, on a pass, and records what they do: what it makes stands below the parent.
+/// Runs statements from a level on, on a pass, and records what they do: what it makes stands below the parent. The old
+/// destinations are those that this run didn't make; where one gets other words, all who read it are marked.
 #[cycle(run)]
 pub fn run_block<Rt: Threads + Sync, G: Gate + Sync>(
     rt: &Rt,
@@ -41,14 +44,15 @@ pub fn run_block<Rt: Threads + Sync, G: Gate + Sync>(
     ground: &Ground,
     texts: &[TextId],
     funcs: &[Func],
+    olds: &[Handle],
     level: u32,
     body: &[Stmt],
     env: &[Binding],
     parent: Option<Handle>,
     mut pass: Pass,
 ) -> (Result<Record, Halt>, Pass)
-    requires { Begins (setting_on ground.now texts.now) funcs.now tables.now body.now (env_of env.now) parent pass }
-    ensures { (k : Kept) × Leaves (setting_on ground.now texts.now) (traced (setting_on ground.now texts.now) funcs.now (levels - level)) (cut_short (setting_on ground.now texts.now) funcs.now (levels - level)) tables.now body.now (env_of env.now) parent pass result.1 (ended_of k result.0) }
+    requires { Begins (setting_on ground.now texts.now) funcs.now olds.now tables.now body.now (env_of env.now) parent pass }
+    ensures { (k : Kept) × Leaves (setting_on ground.now texts.now) (traced (setting_on ground.now texts.now) funcs.now (levels - level)) (cut_short (setting_on ground.now texts.now) funcs.now (levels - level)) olds.now tables.now body.now (env_of env.now) parent pass result.1 (ended_of k result.0) }
 {
     let [s, rest @ ..] = body else {
         return (Ok(Record::empty()), pass);
@@ -75,6 +79,7 @@ pub fn run_block<Rt: Threads + Sync, G: Gate + Sync>(
             ground,
             texts,
             funcs,
+            olds,
             level + 1,
             action,
             rest,
@@ -97,6 +102,7 @@ fn act_on<Rt: Threads + Sync, G: Gate + Sync>(
     ground: &Ground,
     texts: &[TextId],
     funcs: &[Func],
+    olds: &[Handle],
     level: u32,
     action: Action,
     rest: &[Stmt],
@@ -104,14 +110,14 @@ fn act_on<Rt: Threads + Sync, G: Gate + Sync>(
     parent: Option<Handle>,
     mut pass: Pass,
 ) -> (Result<Record, Halt>, Pass)
-    requires { BeginsAct (setting_on ground.now texts.now) funcs.now tables.now (action_view (env_of env.now) action) rest.now (env_of env.now) parent pass }
-    ensures { (k : Kept) × LeavesAct (setting_on ground.now texts.now) (levels - level) (traced (setting_on ground.now texts.now) funcs.now (levels - level)) (cut_short (setting_on ground.now texts.now) funcs.now (levels - level)) tables.now (action_view (env_of env.now) action.entry) rest.now (env_of env.now) parent pass result.1 (ended_of k result.0) }
+    requires { BeginsAct (setting_on ground.now texts.now) funcs.now olds.now tables.now (action_view (env_of env.now) action) rest.now (env_of env.now) parent pass }
+    ensures { (k : Kept) × LeavesAct (setting_on ground.now texts.now) (levels - level) (traced (setting_on ground.now texts.now) funcs.now (levels - level)) (cut_short (setting_on ground.now texts.now) funcs.now (levels - level)) olds.now tables.now (action_view (env_of env.now) action.entry) rest.now (env_of env.now) parent pass result.1 (ended_of k result.0) }
 {
     match action {
         Action::Bind(name, value) => match bound_in(alloc, env, name, value) {
             Ok(more) => run_block(
-                rt, alloc, crew, gate, tables, ground, texts, funcs, level, rest, &more, parent,
-                pass,
+                rt, alloc, crew, gate, tables, ground, texts, funcs, olds, level, rest, &more,
+                parent, pass,
             ),
             Err(_) => (Err(Halt::NoMemory), pass),
         },
@@ -119,8 +125,8 @@ fn act_on<Rt: Threads + Sync, G: Gate + Sync>(
             Ok(m) => match bound_in(alloc, env, name, Plain::Ref(m)) {
                 Ok(more) => {
                     let (r, pass) = run_block(
-                        rt, alloc, crew, gate, tables, ground, texts, funcs, level, rest, &more,
-                        parent, pass,
+                        rt, alloc, crew, gate, tables, ground, texts, funcs, olds, level, rest,
+                        &more, parent, pass,
                     );
                     (after_made(alloc, m, r), pass)
                 }
@@ -129,27 +135,30 @@ fn act_on<Rt: Threads + Sync, G: Gate + Sync>(
             Err(full) => (Err(Halt::Full(CapKind::Mods, full)), pass),
         },
         Action::Put(m, v) => {
-            tables.values.write(&mut pass.values, m, to_words(v));
+            let words = to_words(v);
+            let mut pass = warned(tables, olds, m, words, pass);
+            tables.values.write(&mut pass.values, m, words);
             let (r, pass) = run_block(
-                rt, alloc, crew, gate, tables, ground, texts, funcs, level, rest, env, parent, pass,
+                rt, alloc, crew, gate, tables, ground, texts, funcs, olds, level, rest, env,
+                parent, pass,
             );
             (after_wrote(alloc, m, v, r), pass)
         }
         Action::Branch(body) => run_inner(
-            rt, alloc, crew, gate, tables, ground, texts, funcs, level, body, env, rest, env,
+            rt, alloc, crew, gate, tables, ground, texts, funcs, olds, level, body, env, rest, env,
             parent, pass,
         ),
         Action::Called(body, inner) => run_inner(
-            rt, alloc, crew, gate, tables, ground, texts, funcs, level, body, &inner, rest, env,
-            parent, pass,
+            rt, alloc, crew, gate, tables, ground, texts, funcs, olds, level, body, &inner, rest,
+            env, parent, pass,
         ),
         Action::Block(number, seen, items, body) => run_read(
-            rt, alloc, crew, gate, tables, ground, texts, funcs, level, number, &seen, items, body,
-            rest, env, parent, pass,
+            rt, alloc, crew, gate, tables, ground, texts, funcs, olds, level, number, &seen, items,
+            body, rest, env, parent, pass,
         ),
         Action::Sides(left, right) => run_par(
-            rt, alloc, crew, gate, tables, ground, texts, funcs, level, left, right, rest, env,
-            parent, pass,
+            rt, alloc, crew, gate, tables, ground, texts, funcs, olds, level, left, right, rest,
+            env, parent, pass,
         ),
     }
 }
@@ -165,6 +174,7 @@ fn run_inner<Rt: Threads + Sync, G: Gate + Sync>(
     ground: &Ground,
     texts: &[TextId],
     funcs: &[Func],
+    olds: &[Handle],
     level: u32,
     body: &[Stmt],
     inner: &[Binding],
@@ -173,8 +183,8 @@ fn run_inner<Rt: Threads + Sync, G: Gate + Sync>(
     parent: Option<Handle>,
     pass: Pass,
 ) -> (Result<Record, Halt>, Pass)
-    requires { BeginsAct (setting_on ground.now texts.now) funcs.now tables.now (Body body.now (env_of inner.now)) rest.now (env_of env.now) parent pass }
-    ensures { (k : Kept) × LeavesAct (setting_on ground.now texts.now) (levels - level) (traced (setting_on ground.now texts.now) funcs.now (levels - level)) (cut_short (setting_on ground.now texts.now) funcs.now (levels - level)) tables.now (Body body.now (env_of inner.now)) rest.now (env_of env.now) parent pass result.1 (ended_of k result.0) }
+    requires { BeginsAct (setting_on ground.now texts.now) funcs.now olds.now tables.now (Body body.now (env_of inner.now)) rest.now (env_of env.now) parent pass }
+    ensures { (k : Kept) × LeavesAct (setting_on ground.now texts.now) (levels - level) (traced (setting_on ground.now texts.now) funcs.now (levels - level)) (cut_short (setting_on ground.now texts.now) funcs.now (levels - level)) olds.now tables.now (Body body.now (env_of inner.now)) rest.now (env_of env.now) parent pass result.1 (ended_of k result.0) }
 {
     let (claimed, pass) = stepped(tables, parent, pass);
     match claimed {
@@ -188,6 +198,7 @@ fn run_inner<Rt: Threads + Sync, G: Gate + Sync>(
                 ground,
                 texts,
                 funcs,
+                olds,
                 level,
                 body,
                 inner,
@@ -195,8 +206,8 @@ fn run_inner<Rt: Threads + Sync, G: Gate + Sync>(
                 pass,
             );
             go_on(
-                rt, alloc, crew, gate, tables, ground, texts, funcs, level, node, t, rest, env,
-                pass,
+                rt, alloc, crew, gate, tables, ground, texts, funcs, olds, level, node, t, rest,
+                env, pass,
             )
         }
         Err(halt) => (Err(halt), pass),
@@ -214,6 +225,7 @@ fn run_read<Rt: Threads + Sync, G: Gate + Sync>(
     ground: &Ground,
     texts: &[TextId],
     funcs: &[Func],
+    olds: &[Handle],
     level: u32,
     number: u32,
     seen: &[Seen],
@@ -224,8 +236,8 @@ fn run_read<Rt: Threads + Sync, G: Gate + Sync>(
     parent: Option<Handle>,
     pass: Pass,
 ) -> (Result<Record, Halt>, Pass)
-    requires { BeginsAct (setting_on ground.now texts.now) funcs.now tables.now (Block number (reads_view seen.now) body.now (with_reads (env_of env.now) items.now (reads_view seen.now))) rest.now (env_of env.now) parent pass }
-    ensures { (k : Kept) × LeavesAct (setting_on ground.now texts.now) (levels - level) (traced (setting_on ground.now texts.now) funcs.now (levels - level)) (cut_short (setting_on ground.now texts.now) funcs.now (levels - level)) tables.now (Block number (reads_view seen.now) body.now (with_reads (env_of env.now) items.now (reads_view seen.now))) rest.now (env_of env.now) parent pass result.1 (ended_of k result.0) }
+    requires { BeginsAct (setting_on ground.now texts.now) funcs.now olds.now tables.now (Block number (reads_view seen.now) body.now (with_reads (env_of env.now) items.now (reads_view seen.now))) rest.now (env_of env.now) parent pass }
+    ensures { (k : Kept) × LeavesAct (setting_on ground.now texts.now) (levels - level) (traced (setting_on ground.now texts.now) funcs.now (levels - level)) (cut_short (setting_on ground.now texts.now) funcs.now (levels - level)) olds.now tables.now (Block number (reads_view seen.now) body.now (with_reads (env_of env.now) items.now (reads_view seen.now))) rest.now (env_of env.now) parent pass result.1 (ended_of k result.0) }
 {
     let (begun, pass) = opened(alloc, tables, parent, level, number, env, seen, pass);
     match begun {
@@ -240,6 +252,7 @@ fn run_read<Rt: Threads + Sync, G: Gate + Sync>(
                     ground,
                     texts,
                     funcs,
+                    olds,
                     level,
                     body,
                     &inner,
@@ -248,8 +261,8 @@ fn run_read<Rt: Threads + Sync, G: Gate + Sync>(
                 );
                 let t = in_block(alloc, reading, t);
                 go_on(
-                    rt, alloc, crew, gate, tables, ground, texts, funcs, level, node, t, rest, env,
-                    pass,
+                    rt, alloc, crew, gate, tables, ground, texts, funcs, olds, level, node, t,
+                    rest, env, pass,
                 )
             }
             Err(_) => (Err(Halt::NoMemory), pass),
@@ -269,6 +282,7 @@ fn run_par<Rt: Threads + Sync, G: Gate + Sync>(
     ground: &Ground,
     texts: &[TextId],
     funcs: &[Func],
+    olds: &[Handle],
     level: u32,
     left: &[Stmt],
     right: &[Stmt],
@@ -277,8 +291,8 @@ fn run_par<Rt: Threads + Sync, G: Gate + Sync>(
     parent: Option<Handle>,
     pass: Pass,
 ) -> (Result<Record, Halt>, Pass)
-    requires { BeginsAct (setting_on ground.now texts.now) funcs.now tables.now (Sides left.now right.now) rest.now (env_of env.now) parent pass }
-    ensures { (k : Kept) × LeavesAct (setting_on ground.now texts.now) (levels - level) (traced (setting_on ground.now texts.now) funcs.now (levels - level)) (cut_short (setting_on ground.now texts.now) funcs.now (levels - level)) tables.now (Sides left.now right.now) rest.now (env_of env.now) parent pass result.1 (ended_of k result.0) }
+    requires { BeginsAct (setting_on ground.now texts.now) funcs.now olds.now tables.now (Sides left.now right.now) rest.now (env_of env.now) parent pass }
+    ensures { (k : Kept) × LeavesAct (setting_on ground.now texts.now) (levels - level) (traced (setting_on ground.now texts.now) funcs.now (levels - level)) (cut_short (setting_on ground.now texts.now) funcs.now (levels - level)) olds.now tables.now (Sides left.now right.now) rest.now (env_of env.now) parent pass result.1 (ended_of k result.0) }
 {
     let (claimed, pass) = stepped(tables, parent, pass);
     match claimed {
@@ -292,6 +306,7 @@ fn run_par<Rt: Threads + Sync, G: Gate + Sync>(
                 ground,
                 texts,
                 funcs,
+                olds,
                 level,
                 left,
                 right,
@@ -301,8 +316,8 @@ fn run_par<Rt: Threads + Sync, G: Gate + Sync>(
                 pass,
             );
             go_on(
-                rt, alloc, crew, gate, tables, ground, texts, funcs, level, node, t, rest, env,
-                pass,
+                rt, alloc, crew, gate, tables, ground, texts, funcs, olds, level, node, t, rest,
+                env, pass,
             )
         }
         Err(halt) => (Err(halt), pass),
@@ -321,6 +336,7 @@ fn run_both<Rt: Threads + Sync, G: Gate + Sync>(
     ground: &Ground,
     texts: &[TextId],
     funcs: &[Func],
+    olds: &[Handle],
     level: u32,
     left: &[Stmt],
     right: &[Stmt],
@@ -329,8 +345,8 @@ fn run_both<Rt: Threads + Sync, G: Gate + Sync>(
     parent: Option<Handle>,
     pass: Pass,
 ) -> (Result<Record, Halt>, Pass)
-    requires { BeginsAct (setting_on ground.now texts.now) funcs.now tables.now (Sides left.now right.now) rest.now (env_of env.now) parent pass }
-    ensures { (k : Kept) × LeavesBoth (setting_on ground.now texts.now) (levels - level) (traced (setting_on ground.now texts.now) funcs.now (levels - level)) (cut_short (setting_on ground.now texts.now) funcs.now (levels - level)) tables.now left.now right.now rest.now (env_of env.now) parent pass result.1 (ended_of k result.0) }
+    requires { BeginsAct (setting_on ground.now texts.now) funcs.now olds.now tables.now (Sides left.now right.now) rest.now (env_of env.now) parent pass }
+    ensures { (k : Kept) × LeavesBoth (setting_on ground.now texts.now) (levels - level) (traced (setting_on ground.now texts.now) funcs.now (levels - level)) (cut_short (setting_on ground.now texts.now) funcs.now (levels - level)) olds.now tables.now left.now right.now rest.now (env_of env.now) parent pass result.1 (ended_of k result.0) }
 {
     let (claimed, pass) = stepped(tables, parent, pass);
     let par = match claimed {
@@ -347,6 +363,7 @@ fn run_both<Rt: Threads + Sync, G: Gate + Sync>(
             ground,
             texts,
             funcs,
+            olds,
             level,
             left,
             env,
@@ -365,6 +382,7 @@ fn run_both<Rt: Threads + Sync, G: Gate + Sync>(
             ground,
             texts,
             funcs,
+            still_old(olds, &l),
             level,
             right,
             env,
@@ -379,8 +397,8 @@ fn run_both<Rt: Threads + Sync, G: Gate + Sync>(
         crew,
         gate,
         move || -> (Result<Record, Halt>, Pass)
-            requires { IsSync Rt.row × IsSync G.row × Begins (setting_on ground.now texts.now) funcs.now tables.now left.now (env_of env.now) (Some par) mine }
-            ensures { (k : Kept) × Leaves (setting_on ground.entry.now texts.entry.now) (traced (setting_on ground.entry.now texts.entry.now) funcs.entry.now (levels - level)) (cut_short (setting_on ground.entry.now texts.entry.now) funcs.entry.now (levels - level)) tables.entry.now left.entry.now (env_of env.entry.now) (Some par) mine result.1 (ended_of k result.0) }
+            requires { IsSync Rt.row × IsSync G.row × Begins (setting_on ground.now texts.now) funcs.now olds.now tables.now left.now (env_of env.now) (Some par) mine }
+            ensures { (k : Kept) × Leaves (setting_on ground.entry.now texts.entry.now) (traced (setting_on ground.entry.now texts.entry.now) funcs.entry.now (levels - level)) (cut_short (setting_on ground.entry.now texts.entry.now) funcs.entry.now (levels - level)) olds.entry.now tables.entry.now left.entry.now (env_of env.entry.now) (Some par) mine result.1 (ended_of k result.0) }
         {
             run_block(
                 rt,
@@ -391,6 +409,7 @@ fn run_both<Rt: Threads + Sync, G: Gate + Sync>(
                 ground,
                 texts,
                 funcs,
+                olds,
                 level,
                 left,
                 env,
@@ -399,8 +418,8 @@ fn run_both<Rt: Threads + Sync, G: Gate + Sync>(
             )
         },
         move || -> (Result<Record, Halt>, Pass)
-            requires { IsSync Rt.row × IsSync G.row × Begins (setting_on ground.now texts.now) funcs.now tables.now right.now (env_of env.now) (Some par) theirs }
-            ensures { (k : Kept) × Leaves (setting_on ground.entry.now texts.entry.now) (traced (setting_on ground.entry.now texts.entry.now) funcs.entry.now (levels - level)) (cut_short (setting_on ground.entry.now texts.entry.now) funcs.entry.now (levels - level)) tables.entry.now right.entry.now (env_of env.entry.now) (Some par) theirs result.1 (ended_of k result.0) }
+            requires { IsSync Rt.row × IsSync G.row × Begins (setting_on ground.now texts.now) funcs.now olds.now tables.now right.now (env_of env.now) (Some par) theirs }
+            ensures { (k : Kept) × Leaves (setting_on ground.entry.now texts.entry.now) (traced (setting_on ground.entry.now texts.entry.now) funcs.entry.now (levels - level)) (cut_short (setting_on ground.entry.now texts.entry.now) funcs.entry.now (levels - level)) olds.entry.now tables.entry.now right.entry.now (env_of env.entry.now) (Some par) theirs result.1 (ended_of k result.0) }
         {
             run_block(
                 rt,
@@ -411,6 +430,7 @@ fn run_both<Rt: Threads + Sync, G: Gate + Sync>(
                 ground,
                 texts,
                 funcs,
+                olds,
                 level,
                 right,
                 env,
@@ -434,6 +454,7 @@ fn go_on<Rt: Threads + Sync, G: Gate + Sync>(
     ground: &Ground,
     texts: &[TextId],
     funcs: &[Func],
+    olds: &[Handle],
     level: u32,
     node: Handle,
     t: Result<Record, Halt>,
@@ -441,8 +462,8 @@ fn go_on<Rt: Threads + Sync, G: Gate + Sync>(
     env: &[Binding],
     pass: Pass,
 ) -> (Result<Record, Halt>, Pass)
-    requires { BeginsAfter (setting_on ground.now texts.now) funcs.now tables.now node (ended_of E t) rest.now (env_of env.now) pass }
-    ensures { (j : Kept) → (k : Kept) × LeavesAfter (setting_on ground.now texts.now) (traced (setting_on ground.now texts.now) funcs.now (levels - level)) (cut_short (setting_on ground.now texts.now) funcs.now (levels - level)) tables.now node (ended_of j t) rest.now (env_of env.now) pass result.1 (ended_of k result.0) }
+    requires { BeginsAfter (setting_on ground.now texts.now) funcs.now olds.now tables.now node (ended_of E t) rest.now (env_of env.now) pass }
+    ensures { (j : Kept) → (k : Kept) × LeavesAfter (setting_on ground.now texts.now) (traced (setting_on ground.now texts.now) funcs.now (levels - level)) (cut_short (setting_on ground.now texts.now) funcs.now (levels - level)) olds.now tables.now node (ended_of j t) rest.now (env_of env.now) pass result.1 (ended_of k result.0) }
 {
     match t {
         Ok(t) => {
@@ -455,6 +476,7 @@ fn go_on<Rt: Threads + Sync, G: Gate + Sync>(
                 ground,
                 texts,
                 funcs,
+                olds,
                 level,
                 rest,
                 env,
