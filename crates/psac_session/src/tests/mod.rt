@@ -1,4 +1,5 @@
 mod full;
+mod gated;
 mod outside;
 mod programs;
 mod rows;
