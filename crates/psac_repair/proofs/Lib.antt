@@ -1,0 +1,14 @@
+pub mod Fills
+pub mod Along
+pub mod Walked
+pub mod Before
+pub mod Steps
+pub mod Tells
+pub mod Quiet
+pub mod Forked
+pub mod Sides
+pub mod Leaving
+pub mod Passing
+pub mod Planting
+pub mod Parting
+pub mod Meeting

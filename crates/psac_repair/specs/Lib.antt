@@ -1,0 +1,11 @@
+pub mod Scope
+pub mod Ended
+pub mod Wanted
+pub mod Stood
+pub mod Mends
+pub mod Marks
+pub mod Planted
+pub mod Links
+pub mod Seen
+pub mod Taken
+pub mod Divided

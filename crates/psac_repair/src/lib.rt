@@ -1,0 +1,2 @@
+//! The repair of a record.
+#![tactic(auto)]
