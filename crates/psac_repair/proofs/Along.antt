@@ -30,7 +30,7 @@ use Rattle.psac_trace.proofs.Bound.{bound_old}
 use Rattle.psac_trace.proofs.Valued.{value_known, values_known}
 use Rattle.psac_trace.proofs.Called.{to_old, to_known, linked}
 use Rattle.psac_trace.proofs.Moves.{Narrow, narrow, Matches}
-use Rattle.psac_repair.specs.Scope.{Scope, Inside, Asks, Steps, GoesAlong, AllInside, Reads as ReadsOver, ReadSteps, ReadsAlong}
+use Rattle.psac_repair.specs.Scope.{Scope, Inside, Asks, GoesAlong, AllInside, ReadsAlong}
 use Rattle.psac_repair.proofs.Fills.{scope_bind}
 
 own : (xs : List ℕ) → all_in xs xs ≡ true

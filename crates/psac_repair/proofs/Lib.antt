@@ -12,3 +12,8 @@ pub mod Passing
 pub mod Planting
 pub mod Parting
 pub mod Meeting
+pub mod Linking
+pub mod Sighted
+pub mod Tallying
+pub mod Adding
+pub mod Asking

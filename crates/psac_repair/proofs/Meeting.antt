@@ -1,5 +1,5 @@
 -- What both sides of a par leave of nodes and marks, joined.
-use Rattle.std.proofs.Common.{◌≡◌, ◌⊎◌, ℕ, ◌+◌, ◌<◌, ◌&&◌, not, Bool, true, false, List, [], ◌∷◌, ◌++◌, map, Option, Some, None, refl, ap, sym, ◌∙◌, subst, inl, inr, ⊎_elim, arith}
+use Rattle.std.proofs.Common.{◌≡◌, ◌⊎◌, ℕ, ◌+◌, ◌<◌, not, Bool, true, false, List, ◌++◌, map, Option, Some, refl, ap, sym, ◌∙◌, subst, inl, inr, ⊎_elim, arith}
 use Rattle.std.specs.Prelude.{filter}
 use Rattle.psac_ops.specs.declared.plain.Handle.{Handle}
 use Rattle.psac_slots.specs.Branches.{stem}
@@ -13,16 +13,16 @@ use Rattle.psac_marks.specs.declared.view.OwnView.{OwnView}
 use Rattle.psac_marks.specs.declared.view.SharedView.{SharedView}
 use Rattle.psac_marks.specs.declared.view.MarksView.{MarksView}
 use Rattle.psac_marks.specs.Marked.{Place, places, own_place, shared_place, Has, ways, rights_of}
-use Rattle.psac_marks.specs.Steps.{Lacks, joined, goes_over, now_shared}
+use Rattle.psac_marks.specs.Steps.{Lacks, joined, goes_over}
 use Rattle.psac_marks.specs.Passes.{IsKept, IsBusy, United, slot_of}
 use Rattle.psac_marks.proofs.Parts.{place_own, place_shared, place_cases}
 use Rattle.psac_marks.proofs.Counted.{times_both, times_in, times_out}
 use Rattle.psac_record.specs.Kept.{Kept, P}
 use Rattle.psac_trace.specs.Fit.{Rooted}
 use Rattle.psac_trace.proofs.Sums.{back_is, above_is}
-use Rattle.psac_repair.specs.Planted.{slots, Apart, Children, NoneMarked, IsMade, Planted, Passed, Replanted, Halves}
+use Rattle.psac_repair.specs.Planted.{slots, Children, NoneMarked, IsMade, Planted, Passed, Replanted, Halves}
 use Rattle.psac_repair.proofs.Passing.{times_none, Here, node_at, own_has, lacks_not, kept_back, has_on, had_on}
-use Rattle.psac_repair.proofs.Parting.{is_in, in_is, nodes_map, families_map, child_in, Sh, Ri, L, K, beside, apart_sides, left_not_shared, right_not_shared, dropped_not_shared, not_over, left_own, right_own, stays_left, goes_right, shared_has, left_kept_back, right_kept_back, planted_left, planted_right}
+use Rattle.psac_repair.proofs.Parting.{is_in, in_is, nodes_map, families_map, child_in, Sh, Ri, L, K, beside, apart_sides, left_not_shared, right_not_shared, dropped_not_shared, not_over, left_own, right_own, stays_left, goes_right, shared_has, planted_left, planted_right}
 
 module _ (m : MarksView) (rooted : Rooted m) (us : List ℕ) (above : Option Handle) (n : Handle) (l r : Kept) (p : Planted m us above (P n l r)) where
   abbrev S : ℕ → Bool

@@ -1,12 +1,12 @@
 -- How the nodes and marks of both sides of a par are divided: what each side begins with.
-use Rattle.std.proofs.Common.{◌≡◌, ◌⊎◌, ℕ, suc, zero, ◌+◌, ◌<◌, ◌==◌, ◌&&◌, not, Bool, true, false, List, [], ◌∷◌, ◌++◌, map, Option, Some, None, refl, ap, sym, ◌∙◌, subst, inl, inr, ⊎_elim, arith}
+use Rattle.std.proofs.Common.{◌≡◌, ◌⊎◌, ℕ, ◌<◌, ◌==◌, ◌&&◌, not, Bool, true, false, List, ◌∷◌, ◌++◌, map, Option, Some, refl, ap, sym, ◌∙◌, subst, inl, inr, ⊎_elim, arith}
 use Rattle.std.specs.Prelude.{filter, ltb}
 use Rattle.std.proofs.lemmas.Bool.{lt-ltb, ltb-true}
 use Rattle.psac_ops.specs.declared.plain.Handle.{Handle}
 use Rattle.psac_slots.specs.Handles.{Member}
 use Rattle.psac_slots.specs.Claiming.{times}
 use Rattle.psac_slots.specs.Divided.{stays, goes, lends}
-use Rattle.psac_slots.proofs.Pairs.{member_left, member_right, member_cases, member_filter, filter_member, map_member, member_map}
+use Rattle.psac_slots.proofs.Pairs.{member_left, member_right, member_cases, member_filter, filter_member, map_member}
 use Rattle.psac_laws.proofs.Places.{nat_is, nat_same, not_true, test_or, not_both, and_is}
 use Rattle.psac_marks.specs.declared.view.OwnView.{OwnView}
 use Rattle.psac_marks.specs.declared.view.SharedView.{SharedView}
@@ -21,7 +21,7 @@ use Rattle.psac_trace.specs.Fit.{Rooted}
 use Rattle.psac_repair.specs.Marks.{Sits, Nodes}
 use Rattle.psac_repair.specs.Planted.{slots, tops, Apart, Children, Families, Planted}
 use Rattle.psac_repair.specs.Divided.{has_node, outside}
-use Rattle.psac_repair.proofs.Passing.{top_in, Here, node_at, own_has}
+use Rattle.psac_repair.proofs.Passing.{top_in, node_at, own_has}
 
 -- in a list, as a test
 pub is_in : (x : ℕ) (xs : List ℕ) → Member x xs → ltb 0 (times x xs) ≡ true

@@ -1,5 +1,5 @@
 -- What stands of a pass's nodes and marks where others were gone through.
-use Rattle.std.proofs.Common.{◌≡◌, ◌≢◌, ◌⊎◌, ℕ, ◌+◌, ◌<◌, List, [], ◌∷◌, ◌++◌, map, Option, Some, None, refl, ap, sym, ◌∙◌, subst, inl, inr, ⊎_elim, arith}
+use Rattle.std.proofs.Common.{◌≡◌, ◌≢◌, ◌⊎◌, ℕ, ◌<◌, List, [], ◌++◌, Option, Some, refl, ap, sym, ◌∙◌, subst, inl, inr, ⊎_elim, arith}
 use Rattle.psac_ops.specs.declared.plain.Handle.{Handle}
 use Rattle.psac_slots.specs.Handles.{Member}
 use Rattle.psac_slots.specs.Claiming.{times}
@@ -10,7 +10,7 @@ use Rattle.psac_marks.specs.declared.view.SharedView.{SharedView}
 use Rattle.psac_marks.specs.declared.view.MarksView.{MarksView}
 use Rattle.psac_marks.specs.Marked.{Place, places, own_place, shared_place, Has}
 use Rattle.psac_marks.specs.Steps.{Lacks, cleared}
-use Rattle.psac_marks.specs.Passes.{IsKept, IsBusy, slot_of}
+use Rattle.psac_marks.specs.Passes.{IsKept, slot_of}
 use Rattle.psac_marks.proofs.Parts.{place_own, place_shared, place_cases, times_else}
 use Rattle.psac_marks.proofs.Counted.{times_both, times_member, times_found}
 use Rattle.psac_record.specs.Kept.{Kept, E, A, W, S, P, R}

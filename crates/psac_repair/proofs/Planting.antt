@@ -1,20 +1,19 @@
 -- A walk through a record, node by node: what each part begins with, and what the parts leave the whole leaves.
-use Rattle.std.proofs.Common.{◌≡◌, ◌⊎◌, ℕ, ◌+◌, ◌<◌, List, [], ◌∷◌, ◌++◌, Option, Some, None, refl, ap, sym, ◌∙◌, subst, inl, inr, ⊎_elim, arith}
+use Rattle.std.proofs.Common.{◌≡◌, ◌⊎◌, ℕ, List, [], ◌∷◌, ◌++◌, Option, Some, refl, sym, subst, inl, inr, ⊎_elim}
 use Rattle.psac_ops.specs.declared.plain.Handle.{Handle}
 use Rattle.psac_ops.specs.declared.plain.Plain.{Plain}
 use Rattle.psac_slots.specs.Handles.{Member}
 use Rattle.psac_slots.specs.Claiming.{times}
 use Rattle.psac_slots.proofs.Pairs.{member_left, member_right, member_cases}
-use Rattle.psac_marks.specs.declared.view.OwnView.{OwnView}
 use Rattle.psac_marks.specs.declared.view.MarksView.{MarksView}
 use Rattle.psac_marks.specs.Marked.{places, Has}
-use Rattle.psac_marks.specs.Steps.{Lacks, IsClosed, cleared}
+use Rattle.psac_marks.specs.Steps.{Lacks, cleared}
 use Rattle.psac_marks.specs.Passes.{IsKept, Owns, Bare, slot_of}
 use Rattle.psac_marks.proofs.Parts.{times_gone}
 use Rattle.psac_record.specs.declared.parts.Reading.{Reading}
 use Rattle.psac_record.specs.Kept.{Kept, E, A, W, S, P, R}
-use Rattle.psac_repair.specs.Marks.{Nodes, Unmarked}
-use Rattle.psac_repair.specs.Planted.{slots, tops, Apart, Once, Children, Families, NoneMarked, Planted, Passed, Replanted, Halves}
+use Rattle.psac_repair.specs.Marks.{Unmarked}
+use Rattle.psac_repair.specs.Planted.{slots, tops, Apart, Children, NoneMarked, Planted, Passed, Replanted, Halves}
 use Rattle.psac_repair.proofs.Passing.{top_in, Here, node_at, own_has, lacks_not, kept_on, has_on, lacks_back, nodes_on, children_on, families_on, none_on, had_on, passed_none, passed_cleared, passed_then}
 
 -- all nodes of a record are kept

@@ -1,13 +1,11 @@
 -- Below a node that isn't marked nothing is marked, and the record is kept.
-use Rattle.std.proofs.Common.{◌≡◌, ◌⊎◌, ℕ, suc, zero, ◌<◌, Bool, true, false, if◌then◌else◌, List, [], ◌∷◌, ◌++◌, Option, Some, None, Contains, AllPairs, arith, refl, ap, sym, ◌∙◌, subst, inl, inr}
+use Rattle.std.proofs.Common.{◌≡◌, ◌⊎◌, ℕ, Bool, true, false, if◌then◌else◌, List, [], Option, Some, Contains, AllPairs, arith, refl, ap, sym, subst, inl, inr}
 use Rattle.psac_ops.specs.declared.plain.Handle.{Handle}
-use Rattle.psac_ops.specs.Value.{Value}
 use Rattle.psac_ops.specs.Named.{same_handle}
 use Rattle.psac_syntax.specs.declared.program.Stmt.{Stmt}
 use Rattle.psac_syntax.specs.declared.program.Func.{Func}
 use Rattle.psac_slots.specs.Claiming.{times}
 use Rattle.psac_values.specs.declared.view.ValueView.{ValueView}
-use Rattle.psac_values.specs.Steps.{Lacks}
 use Rattle.psac_marks.specs.declared.view.MarksView.{MarksView}
 use Rattle.psac_marks.specs.Steps.{IsClosed as IsMarkClosed}
 use Rattle.psac_model.specs.declared.ends.End.TheVariants.{Done}
@@ -21,17 +19,17 @@ use Rattle.psac_traced.specs.Rec.{Rec}
 use Rattle.psac_traced.specs.Holds.{EachOf, EachRead}
 use Rattle.psac_traced.specs.Places.{Makes, IsApart}
 use Rattle.psac_traced.specs.Parts.{IsClosed, IsBody}
-use Rattle.psac_traced.specs.Mending.{Mending, mended, untouched, unlike, anew, below}
+use Rattle.psac_traced.specs.Mending.{Mending, mended, unlike, anew, below}
 use Rattle.psac_traced.specs.Mended.{Mended}
 use Rattle.psac_traced.proofs.Kept.{kept_untouched}
-use Rattle.psac_trace.specs.Rights.{Heap, In, Sees, Tidy, Kept}
-use Rattle.psac_repair.specs.Ended.{Ended, Good}
+use Rattle.psac_trace.specs.Rights.{Heap, In, Tidy, Kept}
+use Rattle.psac_repair.specs.Ended.{Good}
 use Rattle.psac_trace.proofs.Views.{kept_same}
 use Rattle.psac_record.specs.declared.parts.Reading.{Reading}
 use Rattle.psac_record.specs.Kept.{Kept as Tree, E, A, W, S, P, R, bare}
 use Rattle.psac_repair.specs.Scope.{GoesAlong, ReadsAlong}
 use Rattle.psac_repair.specs.Stood.{Stood, Owned}
-use Rattle.psac_repair.specs.Marks.{Present, IsMarked, Sits, Nodes, Up, Unmarked}
+use Rattle.psac_repair.specs.Marks.{Present, Sits, Nodes, Up, Unmarked}
 use Rattle.psac_repair.specs.Mends.{Told, Tells}
 use Rattle.psac_repair.proofs.Before.{no_pair, no_block}
 use Rattle.psac_repair.proofs.Steps.{made_owned, had_not_lacked}

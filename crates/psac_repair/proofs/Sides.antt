@@ -1,39 +1,37 @@
 -- Both sides of a par at once: each begins on its part of the pass, and what both tell is told of the par.
-use Rattle.std.proofs.Common.{◌≡◌, ◌⊎◌, ℕ, not, ◌&&◌, Bool, true, false, List, [], ◌∷◌, ◌++◌, Option, Some, None, Contains, refl, ap, sym, ◌∙◌, subst, inl, inr, ⊎_elim, append_assoc}
+use Rattle.std.proofs.Common.{◌≡◌, ℕ, not, ◌&&◌, Bool, true, false, List, ◌++◌, Some, None, refl, ap, sym, ◌∙◌, subst, inl, inr, ⊎_elim, append_assoc}
 use Rattle.std.proofs.lemmas.List.Elements.{Contains-append_cases}
 use Rattle.psac_ops.specs.declared.plain.Handle.{Handle}
-use Rattle.psac_ops.specs.Value.{Value}
 use Rattle.psac_syntax.specs.declared.program.Stmt.{Stmt}
 use Rattle.psac_syntax.specs.declared.program.Func.{Func}
 use Rattle.psac_slots.specs.Handles.{Member}
 use Rattle.psac_values.specs.declared.view.ValueView.{ValueView}
 use Rattle.psac_values.specs.declared.view.OwnedView.{OwnedView}
 use Rattle.psac_values.specs.declared.view.KnownView.{KnownView}
-use Rattle.psac_values.specs.Steps.{Lacks, left_of, right_of, joined}
+use Rattle.psac_values.specs.Steps.{left_of, right_of, joined}
 use Rattle.psac_values.specs.Knowing.{Has, United, all_words}
-use Rattle.psac_model.specs.declared.ends.End.{End}
 use Rattle.psac_model.specs.declared.ends.End.TheVariants.{Done, Stop}
 use Rattle.psac_model.specs.Names.{Env}
 use Rattle.psac_model.specs.Expression.{Setting}
 use Rattle.psac_laws.specs.Standing.{Standing, in_both}
-use Rattle.psac_laws.proofs.Places.{none_some, not_true, test_or, not_both}
+use Rattle.psac_laws.proofs.Places.{none_some, test_or, not_both}
 use Rattle.psac_traced.specs.Rec.{Rec, S, P, writes}
 use Rattle.psac_traced.specs.Places.{Makes, IsApart}
 use Rattle.psac_traced.specs.Parts.{IsClosed}
 use Rattle.psac_traced.specs.Mending.{mended}
-use Rattle.psac_trace.specs.Rights.{Heap, held, In, Named, Within, Wider, Sees, Shares, Tidy, Target, Kept}
+use Rattle.psac_trace.specs.Rights.{Heap, held, Named, Within, Sees, Tidy, Target, Kept}
 use Rattle.psac_repair.specs.Ended.{Ended, Good, Fault, Other, both_ended}
 use Rattle.psac_repair.specs.Wanted.{NewMade}
-use Rattle.psac_trace.proofs.Heaps.{held_front, held_either, in_front, in_back, in_either, named_more, names_back, wider_in, within_fresh, Fresh, fresh_sides}
+use Rattle.psac_trace.proofs.Heaps.{held_front, held_either, in_front, in_back, in_either, named_more, names_back, wider_in, within_fresh, fresh_sides}
 use Rattle.psac_trace.proofs.Forks.{left_has, right_has, left_from, left_sees, right_sees, joined_kept, joined_sees_left, joined_sees_right, lent_left, left_right, right_shares, shares_left}
 use Rattle.psac_repair.specs.Scope.{Scope, GoesAlong, ReadsAlong, Fills}
 use Rattle.psac_repair.specs.Stood.{Stood, Owned}
 use Rattle.psac_repair.specs.Divided.{writes_slot, neither}
-use Rattle.psac_repair.specs.Mends.{Mends, Still, Renewed, Told, Needs, Tells, TellsPart}
-use Rattle.psac_repair.proofs.Fills.{scope_right, fills_second, target_left, target_right, target_either, targets_apart}
+use Rattle.psac_repair.specs.Mends.{Still, Renewed, Told, Needs, Tells, TellsPart}
+use Rattle.psac_repair.proofs.Fills.{scope_right, fills_second, target_either, targets_apart}
 use Rattle.psac_repair.proofs.Before.{Always, AtPair, filled}
-use Rattle.psac_repair.proofs.Steps.{scope_of, has_of, none_of, ready_from, within_base, distinct_append, part_end}
-use Rattle.psac_repair.proofs.Tells.{pair_at, pair_scope, to_left, to_right, to_whole, had, old_left, stood_left, to_parts}
+use Rattle.psac_repair.proofs.Steps.{scope_of, none_of, ready_from, within_base, distinct_append, part_end}
+use Rattle.psac_repair.proofs.Tells.{pair_at, pair_scope, to_left, to_right, to_whole, old_left, stood_left, to_parts}
 use Rattle.psac_repair.proofs.Forked.{Touches, left_touched, right_touched, left_sees_on, right_sees_on, owned_on}
 
 module _ (w : Setting Handle) (funcs : List Func) (Q : List Stmt → Type 0) (closed : IsClosed funcs Q) (go : GoesAlong w funcs) (reading : ReadsAlong w) (l k r : Rec Handle) (apart : IsApart (S (P l k) r)) where

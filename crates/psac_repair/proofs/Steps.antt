@@ -1,13 +1,11 @@
 -- What a repair tells of a record, from what it tells of the record's parts.
-use Rattle.std.proofs.Common.{◌≡◌, ◌≢◌, ◌⊎◌, ℕ, suc, zero, Bool, true, false, if◌then◌else◌, List, [], ◌∷◌, ◌++◌, map, Option, Some, None, Ok, Contains, AllPairs, length, ◌<◌, ◌+◌, get_or, arith, refl, ap, sym, ◌∙◌, subst, inl, inr, ⊎_elim, append_assoc}
+use Rattle.std.proofs.Common.{◌≡◌, ◌≢◌, ◌⊎◌, ℕ, suc, zero, Bool, List, [], ◌∷◌, ◌++◌, Some, None, Contains, AllPairs, length, ◌<◌, get_or, arith, refl, ap, sym, ◌∙◌, subst, inl, inr, ⊎_elim, append_assoc}
 use Rattle.std.proofs.lemmas.List.Elements.{Contains-append_cases}
 use Rattle.psac_ops.specs.declared.plain.Handle.{Handle}
-use Rattle.psac_ops.specs.Value.{Value, ref}
+use Rattle.psac_ops.specs.Value.{Value}
 use Rattle.psac_syntax.specs.declared.program.Stmt.{Stmt}
 use Rattle.psac_syntax.specs.declared.program.Func.{Func}
 use Rattle.psac_values.specs.declared.view.ValueView.{ValueView}
-use Rattle.psac_values.specs.declared.view.OwnedView.{OwnedView}
-use Rattle.psac_values.specs.declared.view.KnownView.{KnownView}
 use Rattle.psac_values.specs.Steps.{Lacks}
 use Rattle.psac_values.specs.Knowing.{Has}
 use Rattle.psac_slots.specs.Handles.{Member}
@@ -17,22 +15,21 @@ use Rattle.psac_model.specs.Names.{Env}
 use Rattle.psac_model.specs.Expression.{Setting}
 use Rattle.psac_model.specs.Series.{has}
 use Rattle.psac_laws.specs.Standing.{Standing}
-use Rattle.psac_laws.proofs.Places.{none_some}
 use Rattle.psac_traced.specs.Rec.{Rec, E, A, W, S, P, R, writes}
 use Rattle.psac_traced.specs.Places.{Makes, IsApart}
-use Rattle.psac_traced.specs.Parts.{IsClosed, IsBody}
-use Rattle.psac_traced.specs.Mending.{Mending, mended, untouched}
-use Rattle.psac_traced.specs.Mended.{Mended, Behind}
-use Rattle.psac_trace.specs.Rights.{Heap, held, In, Within, Wider, Sees, Shares, Target, Ready, Kept}
+use Rattle.psac_traced.specs.Parts.{IsClosed}
+use Rattle.psac_traced.specs.Mending.{mended}
+use Rattle.psac_traced.specs.Mended.{Mended}
+use Rattle.psac_trace.specs.Rights.{Heap, held, In, Within, Wider, Sees, Target, Ready, Kept}
 use Rattle.psac_repair.specs.Ended.{Ended, Good, Fault, Other, then_ended}
 use Rattle.psac_repair.specs.Wanted.{NewMade}
 use Rattle.psac_trace.proofs.Results.{ref_is}
 use Rattle.psac_trace.proofs.Heaps.{in_or_not, in_and_none, held_back, held_either, in_front, in_back, in_either, one_is, at_one, within_front, Fresh, fresh_then}
 use Rattle.psac_repair.specs.Scope.{Scope, GoesAlong, ReadsAlong, Fills}
 use Rattle.psac_repair.specs.Stood.{Stood, Owned}
-use Rattle.psac_repair.specs.Mends.{Mends, Still, Renewed, Told, PartEnd}
+use Rattle.psac_repair.specs.Mends.{Still, Renewed, Told, PartEnd}
 use Rattle.psac_repair.proofs.Fills.{fills_more}
-use Rattle.psac_repair.proofs.Before.{Always, Left, Sequel, AtMade, AtWrote, AtInner, wrote_fills, part_target, rest_target, part_not_rest, seq_scope, seq_fills, rest_unmade, filled}
+use Rattle.psac_repair.proofs.Before.{Left, Sequel, AtMade, AtWrote, wrote_fills, part_target, rest_target, part_not_rest, seq_scope, seq_fills, rest_unmade, filled}
 
 -- a place that a pass is ready for, and what is in scope there
 pub scope_of : (w : Setting Handle) (st : Standing) (left : List ℕ) (env : Env Handle) (v : ValueView) (base : Heap) → Ready w st left env v base → Scope w st left env base

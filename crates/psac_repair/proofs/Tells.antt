@@ -1,7 +1,7 @@
 -- Needs and tells, statement by statement.
-use Rattle.std.proofs.Common.{◌≡◌, ◌⊎◌, ℕ, Bool, true, false, if◌then◌else◌, List, [], ◌∷◌, ◌++◌, map, Option, Some, None, Ok, refl, ap, sym, ◌∙◌, subst, inl, inr, append_assoc}
+use Rattle.std.proofs.Common.{◌≡◌, ℕ, true, false, if◌then◌else◌, List, [], ◌∷◌, ◌++◌, map, Some, None, Ok, refl, ap, sym, ◌∙◌, subst, inl, inr, append_assoc}
 use Rattle.psac_ops.specs.declared.plain.Handle.{Handle}
-use Rattle.psac_ops.specs.Value.{Value, ref}
+use Rattle.psac_ops.specs.Value.{Value}
 use Rattle.psac_ops.specs.Named.{same_handle}
 use Rattle.psac_syntax.specs.declared.program.Stmt.{Stmt, out-Stmt}
 use Rattle.psac_syntax.specs.declared.program.Stmt.TheOpen.{Stmt-F}
@@ -10,25 +10,22 @@ use Rattle.psac_syntax.specs.declared.program.Func.{Func}
 use Rattle.psac_values.specs.declared.view.ValueView.{ValueView}
 use Rattle.psac_values.specs.Knowing.{Has}
 use Rattle.psac_model.specs.declared.ends.FaultKind.{FaultKind}
-use Rattle.psac_model.specs.declared.ends.End.{End}
 use Rattle.psac_model.specs.declared.ends.End.TheVariants.{Done, Stop}
 use Rattle.psac_model.specs.Names.{Env}
 use Rattle.psac_model.specs.Expression.{Setting, value_of, in_order, or_kind}
 use Rattle.psac_model.specs.Tree.{Reads}
 use Rattle.psac_model.specs.Run.{read_of, with_reads, target}
 use Rattle.psac_laws.specs.Standing.{Standing, series, in_both}
-use Rattle.psac_laws.proofs.Places.{none_some, some_is}
+use Rattle.psac_laws.proofs.Places.{none_some}
 use Rattle.psac_naming.specs.Naming.{IsSameTest}
 use Rattle.psac_traced.specs.Rec.{Rec, E, A, W, S, P, R, writes, held_by}
 use Rattle.psac_traced.specs.Traced.{listed, traced}
 use Rattle.psac_traced.specs.Holds.{read_names, EachOf, Sees as SeesIn}
 use Rattle.psac_traced.specs.Places.{Makes, IsApart}
 use Rattle.psac_traced.specs.Parts.{IsClosed, IsBody}
-use Rattle.psac_traced.specs.Mending.{mended, unlike, anew, below, made_by}
-use Rattle.psac_traced.specs.Mended.{Mended}
+use Rattle.psac_traced.specs.Mending.{mended, unlike, anew, below}
 use Rattle.psac_traced.proofs.Results.{ok_is, ok_then}
 use Rattle.psac_traced.proofs.Again.{reads_there}
-use Rattle.psac_traced.proofs.Kept.{kept_untouched, kept_mended}
 use Rattle.psac_trace.specs.Rights.{Heap, held, In, Within, Wider, Sees, Target, Ready, Kept}
 use Rattle.psac_repair.specs.Ended.{Ended, Good, Fault, Other, then_ended, both_ended, is_other}
 use Rattle.psac_trace.specs.Told as trace
@@ -38,9 +35,9 @@ use Rattle.psac_trace.proofs.Views.{kept_then}
 use Rattle.psac_trace.proofs.Heaps.{handle_is, handle_same, not_in, held_back, in_either, within_front, within_fresh, fresh_then, fresh_sides}
 use Rattle.psac_repair.specs.Scope.{Reads as ReadBegins, Scope, GoesAlong, ReadsAlong, AllInside, Fills}
 use Rattle.psac_repair.specs.Stood.{Stood, Owned}
-use Rattle.psac_repair.specs.Mends.{Mends, Still, Renewed, Told, Needs, Tells, PartEnd, TellsPart}
+use Rattle.psac_repair.specs.Mends.{Still, Told, Needs, Tells, TellsPart}
 use Rattle.psac_repair.proofs.Fills.{fills_more, scope_left, scope_right, scope_second, fills_second, target_left, target_right, targets_apart}
-use Rattle.psac_repair.proofs.Before.{Always, Left, AtReader, AtInner, at_made, at_wrote, AtPair, at_inner, at_reader, at_pair, part_target, filled}
+use Rattle.psac_repair.proofs.Before.{Always, AtReader, AtInner, at_made, at_wrote, AtPair, at_inner, at_reader, at_pair, part_target, filled}
 use Rattle.psac_repair.proofs.Steps.{within_base, made_owned, owned_still, made_then, scope_of, has_of, ready_from, made_none, left_of_stood, told_into, stood_made, told_made, stood_wrote, told_wrote, part_end}
 
 pub same_test : IsSameTest same_handle

@@ -5,7 +5,9 @@ pub mod Stood
 pub mod Mends
 pub mod Marks
 pub mod Planted
-pub mod Links
-pub mod Seen
 pub mod Taken
+pub mod Linked
+pub mod Seen
 pub mod Divided
+pub mod Tallied
+pub mod Laws

@@ -1,11 +1,10 @@
 -- What a repair leaves of values and of the record.
-use Rattle.std.specs.Prelude.{◌≡◌, ◌≢◌, ◌⊎◌, ℕ, List, ◌++◌, Some, None, Contains, AllPairs}
+use Rattle.std.specs.Prelude.{◌≡◌, ℕ, List, ◌++◌, None}
 use Rattle.psac_ops.specs.declared.plain.Handle.{Handle}
 use Rattle.psac_ops.specs.Value.{Value}
 use Rattle.psac_syntax.specs.declared.program.Stmt.{Stmt}
 use Rattle.psac_syntax.specs.declared.program.Func.{Func}
 use Rattle.psac_values.specs.declared.view.ValueView.{ValueView}
-use Rattle.psac_values.specs.Steps.{Lacks}
 use Rattle.psac_values.specs.Knowing.{Has}
 use Rattle.psac_model.specs.declared.ends.End.{End}
 use Rattle.psac_model.specs.declared.ends.End.TheVariants.{Done, Stop}
@@ -16,7 +15,7 @@ use Rattle.psac_traced.specs.Rec.{Rec, S, writes}
 use Rattle.psac_traced.specs.Places.{Makes}
 use Rattle.psac_traced.specs.Mending.{mended}
 use Rattle.psac_traced.specs.Mended.{Mended}
-use Rattle.psac_trace.specs.Rights.{Heap, held, In, Within, Wider, Sees, Closed, Target, Kept}
+use Rattle.psac_trace.specs.Rights.{Heap, held, In, Within, Wider, Sees, Target, Kept}
 use Rattle.psac_repair.specs.Ended.{Ended, Good, Fault, Other, then_ended}
 use Rattle.psac_repair.specs.Wanted.{NewMade}
 use Rattle.psac_repair.specs.Scope.{Fills}

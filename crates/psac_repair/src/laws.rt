@@ -1,0 +1,28 @@
+//! What adds up along the walk of a repair. These functions have nothing to run.
+ghost use Rattle.psac_repair.specs.Laws.{SeriesAlong, QuietIsKept, MadeAddsUp, WroteAddsUp, InnerAddsUp, RestAddsUp, TurnsAddUp, SidesAddUp, PartsStandUp, SidesStandUp};
+
+/// Along a run of a checked program the series rule says with what each statement and each read block begins.
+pub fn series_goes_along()
+    ensures { SeriesAlong }
+{}
+
+/// A record that read what is present is kept as it is.
+pub fn quiet_records_are_kept()
+    ensures { QuietIsKept }
+{}
+
+/// What a repair tells of the parts of a record it tells of the record, one after the other and of both sides at once.
+pub fn told_parts_add_up()
+    ensures made { MadeAddsUp }
+    ensures wrote { WroteAddsUp }
+    ensures inner { InnerAddsUp }
+    ensures rest { RestAddsUp }
+    ensures turns { TurnsAddUp }
+    ensures sides { SidesAddUp }
+{}
+
+/// As the nodes of the parts stand in a pass, and as their marks are left, so it is with those of the record.
+pub fn standing_parts_add_up()
+    ensures parts { PartsStandUp }
+    ensures sides { SidesStandUp }
+{}
