@@ -1,14 +1,18 @@
 -- The laws of the walk, each of one program.
-use Rattle.std.proofs.Common.{List}
+use Rattle.std.proofs.Common.{◌≡◌, ◌-◌, true, false, List, refl, sym, subst}
 use Rattle.psac_syntax.specs.declared.program.Stmt.{Stmt}
 use Rattle.psac_traced.specs.Bodies.{IsCode}
 use Rattle.psac_traced.specs.Parts.{IsClosed}
 use Rattle.psac_traced.proofs.Bodies.{code_closed}
+use Rattle.psac_model.specs.Fresh.{levels}
+use Rattle.psac_traced.specs.Mending.{unlike}
+use Rattle.psac_record.specs.Kept.{bare, env_of, reads_of}
+use Rattle.psac_repair.proofs.Sighted.{known_of}
 use Rattle.psac_repair.specs.Scope.{GoesAlong, ReadsAlong}
-use Rattle.psac_repair.specs.Laws.{SeriesAlong, Program, QuietIsKept, MadeAddsUp, WroteAddsUp, InnerAddsUp, RestAddsUp, TurnsAddUp, SidesAddUp, PartsStandUp, SidesStandUp}
+use Rattle.psac_repair.specs.Laws.{SeriesAlong, Program, QuietIsKept, MadeAddsUp, WroteAddsUp, InnerAddsUp, RestAddsUp, TurnsAddUp, SidesAddUp, BlockIsKnown, BlockAddsUp, ChangedAddsUp, PartsStandUp, SidesStandUp}
 use Rattle.psac_repair.proofs.Along.{goes_along, reads_along}
-use Rattle.psac_repair.proofs.Tells.{tells_made, tells_wrote, tells_inner, tells_rest, tells_turn}
-use Rattle.psac_repair.proofs.Quiet.{quiet}
+use Rattle.psac_repair.proofs.Tells.{tells_made, tells_wrote, tells_inner, tells_rest, tells_turn, known_reads, tells_block, needs_redo, tells_redo}
+use Rattle.psac_repair.proofs.Quiet.{quiet, like_itself}
 use Rattle.psac_repair.proofs.Sides.{tells_forked}
 use Rattle.psac_repair.proofs.Planting.{planted_part, planted_rest, halves_turn}
 use Rattle.psac_repair.proofs.Meeting.{halves_joined}
@@ -61,3 +65,20 @@ parts_stand m us above n t r p =
 
 pub sides_stand : SidesStandUp
 sides_stand m a b j us above n l r u w rooted p pa pb is un = halves_joined m rooted us above n l r p a b j u w pa pb is un
+
+pub block_known : BlockIsKnown
+block_known g v b t r apart n =
+    known_of v b.reads (known_reads g.setting g.funcs (Q g) (closed g) (go g) (reading g) (levels - b.level) b.block (env_of b.env) (reads_of b.reads) (bare t) r apart v n)
+
+pub block_adds : BlockAddsUp
+block_adds g v u level number saved reads t r e apart p ow k told =
+    tells_block g.setting g.funcs (Q g) (closed g) (go g) (reading g) level number saved reads t r apart v (record { names = refl; seen = p })
+    (subst (λ z. unlike z reads reads ≡ false) (sym g.same) (like_itself reads)) u ow k e told
+
+pub changed_adds : ChangedAddsUp
+changed_adds g v level number saved reads again t r items first apart now other is =
+    let other_one = subst (λ z. unlike z reads again ≡ true) (sym g.same) other in
+    record {
+      begins = needs_redo g.setting g.funcs (Q g) (closed g) (go g) (reading g) level number saved reads t r apart v again now other_one items first is;
+      adds = λ u e ow k told. tells_redo g.setting g.funcs (Q g) (closed g) (go g) (reading g) level number saved reads t r apart v again now other_one items first is u ow k e told;
+    }

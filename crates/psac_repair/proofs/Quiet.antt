@@ -28,12 +28,13 @@ use Rattle.psac_trace.proofs.Views.{kept_same}
 use Rattle.psac_record.specs.declared.parts.Reading.{Reading}
 use Rattle.psac_record.specs.Kept.{Kept as Tree, E, A, W, S, P, R, bare}
 use Rattle.psac_repair.specs.Scope.{GoesAlong, ReadsAlong}
+use Rattle.psac_repair.specs.Seen.{Now}
 use Rattle.psac_repair.specs.Stood.{Stood, Owned}
 use Rattle.psac_repair.specs.Marks.{Present, Sits, Nodes, Up, Unmarked}
 use Rattle.psac_repair.specs.Mends.{Told, Tells}
 use Rattle.psac_repair.proofs.Before.{no_pair, no_block}
 use Rattle.psac_repair.proofs.Steps.{made_owned, had_not_lacked}
-use Rattle.psac_repair.proofs.Tells.{Now, same_test, tells_end, tells_made, tells_wrote, tells_rest, tells_inner, tells_block, tells_turn}
+use Rattle.psac_repair.proofs.Tells.{same_test, tells_end, tells_made, tells_wrote, tells_rest, tells_inner, tells_block, tells_turn}
 
 -- marks
 module _ (m : MarksView) (closed : IsMarkClosed m) where
@@ -84,7 +85,7 @@ module _ (m : MarksView) (closed : IsMarkClosed m) where
   quiet_block v over b t z ns u = quiet_reads v over (R b t) u (z, below_unmarked over b.node ns.0 z t ns.1)
 
 -- reads are like themselves
-like_itself : (reads : Reads Handle) → unlike same_handle reads reads ≡ false
+pub like_itself : (reads : Reads Handle) → unlike same_handle reads reads ≡ false
 like_itself reads = by (unlike same_handle reads reads) refl
   where
     rerun_is : (if unlike same_handle reads reads then anew rec.E rec.E else below (mended same_handle rec.E rec.E)).rerun ≡ 0
@@ -100,7 +101,7 @@ module _ (w : Setting Handle) (is : w.same ≡ same_handle) (funcs : List Func) 
   same_kept : Kept v v
   same_kept = kept_same v tidy
 
-  now_present : (reads : Reads Handle) → EachOf (Present v) reads → Now v reads reads
+  pub now_present : (reads : Reads Handle) → EachOf (Present v) reads → Now v reads reads
   now_present reads p = record { names = refl; seen = p }
 
   abbrev Quiet : Rec Handle → Type 0

@@ -1,5 +1,5 @@
 -- What a pass sees of a modifiable is what its words say.
-use Rattle.std.proofs.Common.{◌≡◌, ℕ, suc, ◌-◌, ◌≤◌, List, [], ◌∷◌, length, take, drop, get_or, Some, None, Result, Ok, Err, OnOk, refl, ap, sym, ◌∙◌, subst, arith}
+use Rattle.std.proofs.Common.{◌≡◌, not, true, false, inl, inr, ℕ, suc, ◌-◌, ◌≤◌, List, [], ◌∷◌, length, take, drop, get_or, Some, None, Result, Ok, Err, OnOk, refl, ap, sym, ◌∙◌, subst, arith}
 use Rattle.psac_ops.specs.declared.plain.Handle.{Handle}
 use Rattle.psac_ops.specs.declared.plain.Plain.{Plain}
 use Rattle.psac_ops.specs.Value.{Value}
@@ -7,12 +7,20 @@ use Rattle.psac_ops.specs.Named.{value_of}
 use Rattle.psac_ops.specs.Words.{of_words}
 use Rattle.psac_values.specs.declared.view.ValueView.{ValueView}
 use Rattle.psac_values.specs.Knowing.{Knows}
-use Rattle.psac_laws.proofs.Places.{none_some, some_is}
+use Rattle.psac_ops.specs.Named.{same_handle}
+use Rattle.psac_ops.specs.Table.{same_value}
+use Rattle.psac_inputs.proofs.Netting.{same_plains}
+use Rattle.psac_traced.specs.Holds.{read_names, EachOf}
+use Rattle.psac_traced.specs.Mending.{unlike}
+use Rattle.psac_record.specs.Kept.{reads_of}
+use Rattle.psac_repair.specs.Marks.{Present}
+use Rattle.psac_laws.proofs.Places.{none_some, some_is, test_or}
+use Rattle.psac_laws.proofs.Rules.{or_not}
 use Rattle.psac_trace.specs.Rights.{Sees}
 use Rattle.psac_trace.specs.Asking.{Looked}
 use Rattle.psac_trace.proofs.Asked.{sees_looked, looked_same}
 use Rattle.psac_record.specs.declared.parts.Seen.{Seen}
-use Rattle.psac_repair.specs.Seen.{Known, SeenNow}
+use Rattle.psac_repair.specs.Seen.{Known, SeenNow, Now}
 
 module _ (v : ValueView) (m : Handle) (ws : List ℕ) (is : (us : List ℕ) → Knows v m us → ws ≡ us) where
   pub value_is : (p : Plain) → of_words ws ≡ Some p → (x : Value Handle) → Sees v m x → value_of p ≡ x
@@ -56,3 +64,32 @@ looked_none v = looked_same v
 pub on_ok : {X Y : Type 0} {A B : Type 0} (r : Result X Y) → (A → B) → OnOk r A → OnOk r B
 on_ok (Ok x) f h = f h
 on_ok (Err e) f h = h
+
+pub known_of : (v : ValueView) (ss : List Seen) → EachOf (λ m x. (y : Value Handle) × Sees v m y) (reads_of ss) → Known v ss
+known_of v [] k = tt
+known_of v (s ∷ ss) k = (k.0, known_of v ss k.1)
+
+names_now : (v : ValueView) (reads again : List Seen) → SeenNow v reads again → read_names (reads_of reads) ≡ read_names (reads_of again)
+names_now v [] [] s = refl
+names_now v [] (t ∷ again) s = absurd s
+names_now v (r ∷ reads) [] s = absurd s
+names_now v (r ∷ reads) (t ∷ again) s = rw (s.0, names_now v reads again s.3) refl
+
+each_now : (v : ValueView) (reads again : List Seen) → SeenNow v reads again → EachOf (λ m y. (x : Value Handle) → Sees v m x → y ≡ x) (reads_of again)
+each_now v [] [] s = tt
+each_now v [] (t ∷ again) s = absurd s
+each_now v (r ∷ reads) [] s = absurd s
+each_now v (r ∷ reads) (t ∷ again) s = (λ x k. s.2 x (subst (λ m. Sees v m x) (sym s.0) k), each_now v reads again s.3)
+
+pub now_of : (v : ValueView) (reads again : List Seen) → SeenNow v reads again → Now v (reads_of reads) (reads_of again)
+now_of v reads again s = record { names = names_now v reads again s; seen = each_now v reads again s }
+
+-- where nothing differs, what was read is present
+pub same_present : (v : ValueView) (reads again : List Seen) → SeenNow v reads again → unlike same_handle (reads_of reads) (reads_of again) ≡ false → EachOf (Present v) (reads_of reads)
+same_present v [] [] s e = tt
+same_present v [] (t ∷ again) s e = absurd s
+same_present v (r ∷ reads) [] s e = absurd s
+same_present v (r ∷ reads) (t ∷ again) s e =
+    let b = or_not (not (same_value same_handle (value_of r.value) (value_of t.value))) (unlike same_handle (reads_of reads) (reads_of again)) e in
+    let same : r.value ≡ t.value = same_plains r.value t.value (elim (test_or (same_value same_handle (value_of r.value) (value_of t.value))) [ inl i ↦ i | inr i ↦ (let bad : true ≡ false = ap not (sym i) ∙ b.0 in absurd cc) ]) in
+    (λ y k. ap value_of same ∙ s.2 y k, same_present v reads again s.3 b.1)

@@ -34,6 +34,7 @@ use Rattle.psac_trace.proofs.Results.{target_is}
 use Rattle.psac_trace.proofs.Views.{kept_then}
 use Rattle.psac_trace.proofs.Heaps.{handle_is, handle_same, not_in, held_back, in_either, within_front, within_fresh, fresh_then, fresh_sides}
 use Rattle.psac_repair.specs.Scope.{Reads as ReadBegins, Scope, GoesAlong, ReadsAlong, AllInside, Fills}
+use Rattle.psac_repair.specs.Seen.{Now}
 use Rattle.psac_repair.specs.Stood.{Stood, Owned}
 use Rattle.psac_repair.specs.Mends.{Still, Told, Needs, Tells, TellsPart}
 use Rattle.psac_repair.proofs.Fills.{fills_more, scope_left, scope_right, scope_second, fills_second, target_left, target_right, targets_apart}
@@ -47,11 +48,6 @@ same_test = record { itself = handle_same; alone = handle_is }
 abbrev pub after_base : Ended → Heap → Heap
 after_base (Good new) base = writes new ++ base
 after_base e base = base
-
--- reads of the same modifiables, with what the pass sees of them
-pub record Now (v : ValueView) (reads again : Reads Handle) : Type 0 where
-  pub names : read_names reads ≡ read_names again
-  pub seen : EachOf (λ m y. (x : Value Handle) → Sees v m x → y ≡ x) again
 
 -- what reads named, the base has
 each_in : (w : Setting Handle) (env : Env Handle) (heap base : Heap) (items : List ReadItem) (reads : Reads Handle) → in_order (map (read_of (listed w) w env heap) items) ≡ Ok reads → AllInside w env base items → EachOf (λ m x. In base m) reads

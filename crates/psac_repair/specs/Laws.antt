@@ -1,9 +1,11 @@
 -- What adds up along the walk of a repair: what each part tells the whole tells, and as each part stands the whole stands.
-use Rattle.std.specs.Prelude.{◌≡◌, ℕ, false, List, ◌∷◌, ◌++◌, Option, Some}
+use Rattle.std.specs.Prelude.{◌≡◌, true, ℕ, false, List, ◌∷◌, ◌++◌, Option, Some}
 use Rattle.psac_ops.specs.declared.plain.Handle.{Handle}
 use Rattle.psac_ops.specs.Value.{Value}
 use Rattle.psac_ops.specs.Named.{same_handle}
-use Rattle.psac_syntax.specs.declared.program.Stmt.{Stmt}
+use Rattle.psac_syntax.specs.declared.program.Stmt.{Stmt, out-Stmt}
+use Rattle.psac_syntax.specs.declared.program.Stmt.TheOpen.{Stmt-F}
+use Rattle.psac_syntax.specs.declared.program.ReadItem.{ReadItem}
 use Rattle.psac_syntax.specs.declared.program.Func.{Func}
 use Rattle.psac_values.specs.declared.view.ValueView.{ValueView}
 use Rattle.psac_values.specs.Steps as values
@@ -11,20 +13,28 @@ use Rattle.psac_values.specs.Knowing.{United}
 use Rattle.psac_marks.specs.declared.view.MarksView.{MarksView}
 use Rattle.psac_marks.specs.Steps as marks
 use Rattle.psac_marks.specs.Passes as passes
+use Rattle.psac_model.specs.Names.{Env}
 use Rattle.psac_model.specs.Expression.{Setting}
+use Rattle.psac_model.specs.Tree.{Reads}
+use Rattle.psac_model.specs.Run.{with_reads}
 use Rattle.psac_traced.specs.Rec as rec
 use Rattle.psac_traced.specs.Rec.{Rec}
 use Rattle.psac_traced.specs.Bodies.{IsCode}
-use Rattle.psac_traced.specs.Holds.{EachRead}
+use Rattle.psac_traced.specs.Holds.{EachOf, EachRead}
+use Rattle.psac_traced.specs.Mending.{unlike}
+use Rattle.psac_traced.specs.Traced.{traced}
 use Rattle.psac_traced.specs.Places.{IsApart}
 use Rattle.psac_traced.specs.Parts.{IsBody}
 use Rattle.psac_trace.specs.Rights.{Tidy, Kept}
-use Rattle.psac_trace.specs.Told.{AreChecked}
+use Rattle.psac_trace.specs.Told.{AreChecked, Needs as MayRun}
+use Rattle.psac_record.specs.declared.parts.Reading.{Reading}
 use Rattle.psac_trace.specs.Fit.{Rooted}
 use Rattle.psac_record.specs.Kept as tree
 use Rattle.psac_repair.specs.Ended.{Ended, Good, is_other, both_ended, then_ended}
 use Rattle.psac_repair.specs.Scope.{GoesAlong, ReadsAlong}
 use Rattle.psac_repair.specs.Stood.{Owned}
+use Rattle.psac_repair.specs.Seen.{Known, Now}
+use Rattle.psac_repair.specs.Wanted.{TellsAll}
 use Rattle.psac_repair.specs.Marks.{Present}
 use Rattle.psac_repair.specs.Mends.{Tells, TellsPart, Needs}
 use Rattle.psac_repair.specs.Divided.{neither, writes_slot, has_node, outside}
@@ -84,6 +94,33 @@ TurnsAddUp =
 abbrev pub SidesAddUp : Type 0
 SidesAddUp =
     (g : Program) (v a b j : ValueView) (l k r : Rec Handle) (one two : Ended) → IsApart (rec.S (rec.P l k) r) → Tidy v → Owned v l → Owned v k → Owned v r → Kept (values.left_of (neither l k) (writes_slot k) v) a → Kept (values.right_of (neither l k) (writes_slot k) v) b → j ≡ values.joined a b → United a b j → TellsOf g l (values.left_of (neither l k) (writes_slot k) v) a one → TellsOf g k (values.right_of (neither l k) (writes_slot k) v) b two → PartOf g (rec.P l k) r v j (both_ended one two)
+
+-- a read block, before the rest of the body that it stands in
+abbrev pub block_of : Reading → tree.Kept → Rec Handle
+block_of b t = tree.bare (tree.R b t)
+
+-- the pass knows what a block read
+abbrev pub BlockIsKnown : Type 0
+BlockIsKnown = (g : Program) (v : ValueView) (b : Reading) (t : tree.Kept) (r : Rec Handle) → IsApart (rec.S (block_of b t) r) → NeedsOf g (rec.S (block_of b t) r) v → Known v b.reads
+
+-- a block that read what is present, and whose body was gone through
+abbrev pub BlockAddsUp : Type 0
+BlockAddsUp =
+    (g : Program) (v u : ValueView) (level number : ℕ) (saved : Env Handle) (reads : Reads Handle) (t r : Rec Handle) (e : Ended) → IsApart (rec.S (rec.R level number saved reads t) r) → EachOf (Present v) reads → Owned v r → Kept v u → TellsOf g t v u e → PartOf g (rec.R level number saved reads t) r v u (then_ended (rec.R level number saved reads) e)
+
+-- these are the reads and the body of the read block with this number
+abbrev pub IsBlock : Program → ℕ → List ReadItem → List Stmt → Type 0
+IsBlock g number items first =
+    (s : Stmt) (rest : List Stmt) (line : ℕ) (others : List ReadItem) (body : List Stmt) → out-Stmt s ≡ Stmt-F.Read line number others body → IsCode g.funcs g.main (s ∷ rest) → (items ≡ others) × (first ≡ body)
+
+-- a block that read something else: the tracing run may begin, and what it tells is told of the block
+pub record BlockRunsAgain (g : Program) (v : ValueView) (level number : ℕ) (saved : Env Handle) (reads again : Reads Handle) (t r : Rec Handle) (items : List ReadItem) (first : List Stmt) : Type 0 where
+  pub begins : NeedsOf g (rec.S (rec.R level number saved reads t) r) v → MayRun g.setting first (with_reads saved items again) v
+  pub adds : (u : ValueView) (e : Ended) → Owned v r → Kept v u → TellsAll g.setting (traced g.setting g.funcs level) first (with_reads saved items again) v u e → PartOf g (rec.R level number saved reads t) r v u (then_ended (rec.R level number saved again) e)
+
+abbrev pub ChangedAddsUp : Type 0
+ChangedAddsUp =
+    (g : Program) (v : ValueView) (level number : ℕ) (saved : Env Handle) (reads again : Reads Handle) (t r : Rec Handle) (items : List ReadItem) (first : List Stmt) → IsApart (rec.S (rec.R level number saved reads t) r) → Now v reads again → unlike same_handle reads again ≡ true → IsBlock g number items first → BlockRunsAgain g v level number saved reads again t r items first
 
 -- nodes and marks: what a part begins with, what the rest begins with, and what both leave before their node is cleared
 pub record PartsStand (m : MarksView) (us : List ℕ) (above : Option Handle) (n : Handle) (t r : tree.Kept) : Type 0 where

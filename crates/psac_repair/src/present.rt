@@ -1,5 +1,5 @@
 //! What a block's reads see now.
-ghost use Rattle.std.specs.Prelude.{◌≡◌, ◌++◌, IfOk, OnOk, List};
+ghost use Rattle.std.specs.Prelude.{◌≡◌, ◌++◌, true, IfOk, OnOk, IfNone, IfSome, List};
 ghost use Rattle.psac_ops.specs.Value.{Value};
 ghost use Rattle.psac_ops.specs.Table.{same_value};
 ghost use Rattle.psac_ops.specs.declared.plain.Handle.{Handle};
@@ -9,7 +9,9 @@ ghost use Rattle.psac_record.specs.Kept.{reads_of};
 ghost use Rattle.psac_traced.specs.Mending.{unlike};
 ghost use Rattle.psac_trace.specs.Rights.{Sees};
 ghost use Rattle.psac_trace.specs.Asking.{Looked};
-ghost use Rattle.psac_repair.specs.Seen.{Known, SeenNow};
+ghost use Rattle.psac_repair.specs.Seen.{Known, SeenNow, Now};
+ghost use Rattle.psac_repair.specs.Marks.{Present};
+ghost use Rattle.psac_traced.specs.Holds.{EachOf};
 
 use psac_ops::{Plain, from_words};
 use psac_record::Seen;
@@ -58,8 +60,8 @@ fn seen_now(
     seen_now(values, pass, rest, all)
 }
 
-/// The same reads with the values that are there now.
-pub fn reads_now(
+// The same reads with the values that are there now.
+fn reads_now(
     alloc: Global,
     values: &Values,
     pass: &mut ValuePass,
@@ -82,8 +84,8 @@ fn is_same(one: &Plain, two: &Plain) -> bool
     *one == *two
 }
 
-/// Whether reads of the same modifiables gave other values.
-pub fn differ(reads: &[Seen], again: &[Seen]) -> bool
+// Whether reads of the same modifiables gave other values.
+fn differ(reads: &[Seen], again: &[Seen]) -> bool
     ensures { result ≡ unlike same_handle (reads_of reads.now) (reads_of again.now) }
 {
     let [read, reads @ ..] = reads else {
@@ -93,4 +95,26 @@ pub fn differ(reads: &[Seen], again: &[Seen]) -> bool
         return false;
     };
     !is_same(&read.value, &now.value) || differ(reads, again)
+}
+
+/// What a block reads now, where that isn't what it read.
+#[tactic(auto, using(crate::proofs::Sighted::now_of, crate::proofs::Sighted::same_present))]
+pub fn changed_reads(
+    alloc: Global,
+    values: &Values,
+    pass: &mut ValuePass,
+    reads: &[Seen],
+) -> Result<Option<Items<Seen>>, AllocError>
+    requires table { pass.old.table ≡ values.now }
+    requires known { Known pass.old.knows reads.now }
+    ensures table { pass.new.table ≡ pass.old.table }
+    ensures looked { Looked pass.old.knows pass.new.knows }
+    ensures same { IfOk result (λ found. IfNone found (EachOf (Present pass.old.knows) (reads_of reads.now))) }
+    ensures changed { IfOk result (λ found. IfSome found (λ again. Now pass.old.knows (reads_of reads.now) (reads_of again) × (unlike same_handle (reads_of reads.now) (reads_of again) ≡ true))) }
+{
+    let again = reads_now(alloc, values, pass, reads)?;
+    if differ(reads, again.as_slice()) {
+        return Ok(Some(again));
+    }
+    Ok(None)
 }
