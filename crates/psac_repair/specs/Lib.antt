@@ -1,0 +1,13 @@
+pub mod Scope
+pub mod Ended
+pub mod Wanted
+pub mod Stood
+pub mod Mends
+pub mod Marks
+pub mod Planted
+pub mod Taken
+pub mod Linked
+pub mod Seen
+pub mod Divided
+pub mod Tallied
+pub mod Laws

@@ -1,0 +1,13 @@
+//! The parts of a record's repair: what a block that is marked read against what is there now, taking a subtree off, the
+//! division at a par, and clearing marks on the way up.
+#![tactic(auto)]
+
+pub mod divide;
+pub mod entry;
+pub mod laws;
+pub mod marks;
+pub mod present;
+pub mod take;
+pub mod tally;
+
+pub use tally::Tally;
