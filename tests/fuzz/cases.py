@@ -46,17 +46,6 @@ def kept():
     return got + [Kept(it) for it in shown]
 
 
-def may_double(program):
-    """Whether a function of the program calls itself, by itself or through others, at two places."""
-    parts = re.split(rb"\bfunc\s+", program)[1:]
-    calls = {re.match(rb"\w*", it)[0]: re.findall(rb"\bcall\s+(\w+)", it) for it in parts}
-    reached = {name: {*its} for name, its in calls.items()}
-    for _ in calls:
-        for name, its in reached.items():
-            its.update(*(reached.get(it, ()) for it in list(its)))
-    return any(sum(it == name or name in reached.get(it, ()) for it in its) > 1 for name, its in calls.items())
-
-
 class Cases:
     """All cases of a seed."""
 
@@ -77,15 +66,12 @@ class Cases:
         script = base.script if base.script and chance.random() < 0.6 else made.script(chance)
         parts = {"program": base.program, "input": given, "script": script}
         if what == "made":
-            parts["program"] = made.Maker(chance).program()
+            parts["program"] = made.Maker(chance, chance.random() < 0.9).program()
         elif what == "bytes":
             parts[chance.choice(list(parts))] = changed.random_bytes(chance)
         elif what != "words":
             others = self.programs if what == "program" else [read(__file__), *self.scripts_and_inputs(what)]
             parts[what] = changed.changed(chance, parts[what], others)
-            # A run that doubles without end would go on for as long as it may.
-            if what == "program" and may_double(parts[what]):
-                parts[what] = base.program
         return self.with_words(chance, number, what, parts, name, base.options)
 
     def scripts_and_inputs(self, what):

@@ -1,7 +1,8 @@
 """Programs, inputs, scripts and words that follow their grammars, made at random.
 
 Most programs keep the series rule too, and most values are of the kind that is asked for, so that runs come far. Every function
-has a value that counts down, so a program ends soon however its functions call each other.
+has a value that counts down, so most programs end soon however their functions call each other; some leave that out, and end
+where the levels or a cap ends them.
 """
 
 INTS = [0, 0, 1, 1, 2, 3, 5, 7, 10, 100, 1000]
