@@ -85,7 +85,7 @@ class Cases:
                 words = changed.changed_words(chance, words)
             return Case(number, what, words, files, parts["script"], False)
         mode = b"session" if what == "script" or chance.random() < 0.7 else b"once"
-        its_caps = made.caps(chance)
+        its_caps = made.caps(chance, mode == b"session")
         if options and b"--rows" not in its_caps:
             its_caps += options
         return Case(number, what, [mode, b"program.psac", name, *its_caps], files, parts["script"])

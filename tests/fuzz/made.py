@@ -237,12 +237,12 @@ def script(chance):
     return b"".join(it + end for it in lines) + chance.choice([b"", b"commit\nshow\n", b"commit"])
 
 
-def caps(chance):
-    """Words for the caps: mostly small ones, at times those without options or the greatest."""
-    size = chance.random()
-    if size < 0.04:
+def caps(chance, is_session):
+    """Words for the caps: mostly small ones, at times, where there is one run alone, those without options or the greatest."""
+    size = 1 if is_session else chance.random()
+    if size < 0.1:
         return []
-    if size < 0.06:
+    if size < 0.12:
         return [b"--nodes", b"1048576", b"--mods", b"1048576", b"--links", b"1048576"]
     words = []
     for name in (b"--nodes", b"--mods", b"--links"):
