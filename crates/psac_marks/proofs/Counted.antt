@@ -3,9 +3,7 @@ use Rattle.std.proofs.Common.{◌≡◌, ◌⊎◌, ℕ, ◌+◌, ◌<◌, ◌�
 use Rattle.std.specs.Prelude.{filter, ◌==◌}
 use Rattle.std.proofs.lemmas.List.Sums.{sum_by-cons, sum_by-append}
 use Rattle.std.proofs.lemmas.Bool.{eq-eqb, eqb-true}
-use Rattle.psac_slots.specs.Handles.{Member}
-use Rattle.psac_slots.specs.Claiming.{times}
-use Rattle.psac_slots.proofs.Sums.{bit}
+use Rattle.psac_marks.proofs.Terms.{Member, times, bit}
 use Rattle.psac_marks.proofs.Parts.{bit_other}
 
 pub times_both : (x : ℕ) (xs ys : List ℕ) → times x (xs ++ ys) ≡ times x xs + times x ys
