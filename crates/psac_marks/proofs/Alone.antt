@@ -1,7 +1,6 @@
 -- What a sole pass knows of the table.
 use Rattle.std.proofs.Common.{◌≡◌, ◌≢◌, ℕ, zero, suc, ◌*◌, ◌<◌, ◌≤◌, List, [], ◌∷◌, map, length, drop, true, false, true≢false, refl, sym, ap, ◌∙◌, subst, inl, ⊎_elim, arith}
-use Rattle.std.proofs.lemmas.Bool.{lt-ltb, cases_eq}
-use Rattle.psac_marks.proofs.Terms.{some, some-injective, get_elem?, at_map, Handle, Member, slot_times, once_below, ClaimView, bit, found, OwnView, SharedView, MarksView, state_at, Place, own_place, shared_place, places, claims_of, rights_of, tree_of, held_times, Marked}
+use Rattle.psac_marks.proofs.Terms.{lt-ltb, cases_eq, some, some-injective, get_elem?, at_map, Handle, Member, slot_times, once_below, ClaimView, bit, found, OwnView, SharedView, MarksView, state_at, Place, own_place, shared_place, places, claims_of, rights_of, tree_of, held_times, Marked}
 use Rattle.psac_slots.proofs.Rewinds as turns
 use Rattle.psac_marks.proofs.Parts.{place_cases}
 use Rattle.psac_marks.proofs.Keeps.{at_mapped, held_is}

@@ -1,9 +1,6 @@
 -- What a caller needs of claims, raises, forks and joins.
 use Rattle.std.proofs.Common.{◌≡◌, ℕ, List, [], ◌∷◌, ◌++◌, map, length, Bool, true, false, refl, sym, ap, ◌∙◌, subst, inl, inr, ⊎_elim, arith, Option, Some, None}
-use Rattle.std.specs.Prelude.{◌==◌, cond, filter, not}
-use Rattle.std.proofs.lemmas.List.Sums.{sum_by-append}
-use Rattle.std.proofs.lemmas.Bool.{le-ltb}
-use Rattle.psac_marks.proofs.Terms.{Handle, stem, Member, comes_back as returns, lends, times, stem_push, member_left, member_right, map_member, filter_member, OwnView, SharedView, MarksView, Place, own_place, shared_place, places, ways, now_shared, joined, Owns, Keeps, IsKept, IsBusy, Leads, Claims, took, climbed, one_of}
+use Rattle.psac_marks.proofs.Terms.{◌==◌, cond, filter, not, sum_by-append, le-ltb, Handle, stem, Member, comes_back as returns, lends, times, stem_push, member_left, member_right, map_member, filter_member, OwnView, SharedView, MarksView, Place, own_place, shared_place, places, ways, now_shared, joined, Owns, Keeps, IsKept, IsBusy, Leads, Claims, took, climbed, one_of}
 use Rattle.psac_marks.proofs.Parts.{place_own, place_shared, place_cases}
 
 -- a path stays where nodes and marks only come, and none is dropped

@@ -1,10 +1,6 @@
 -- What a pass of marks carries after each step.
 use Rattle.std.proofs.Common.{◌≡◌, ◌≢◌, ℕ, suc, ◌+◌, ◌/◌, ◌%◌, ◌<◌, ◌≤◌, List, [], ◌∷◌, ◌++◌, map, length, cond, refl, sym, ap, ◌∙◌, subst, inl, inr, ⊎_elim, arith, Option, Some, None}
-use Rattle.std.specs.Prelude.{◌==◌, IfSome}
-use Rattle.std.proofs.lemmas.List.{map-append}
-use Rattle.std.proofs.lemmas.List.Sums.{sum_by_push}
-use Rattle.std.proofs.lemmas.Bool.{eq-eqb, ne_eqb}
-use Rattle.psac_marks.proofs.Terms.{Handle, Member, slot_times, IsDistinct, bit, member_right, member_cases, map_member, member_times, claimed_entry, OwnView, SharedView, StateView, MarksView, Place, own_place, shared_place, places, Has, handle_of, out_word, free_word, Tells, new_own, new_state, drew, Lacks, hang, hung, put, stated, cleared, asked, detached, Carries, Keeps, slot_of, climbed, took}
+use Rattle.psac_marks.proofs.Terms.{◌==◌, IfSome, map-append, sum_by_push, eq-eqb, ne_eqb, Handle, Member, slot_times, IsDistinct, bit, member_right, member_cases, map_member, member_times, claimed_entry, OwnView, SharedView, StateView, MarksView, Place, own_place, shared_place, places, Has, handle_of, out_word, free_word, Tells, new_own, new_state, drew, Lacks, hang, hung, put, stated, cleared, asked, detached, Carries, Keeps, slot_of, climbed, took}
 use Rattle.psac_slots.specs.Claiming as claiming
 use Rattle.psac_marks.proofs.Parts.{place_own, place_shared, place_cases}
 use Rattle.psac_marks.proofs.Stays.{back_again}

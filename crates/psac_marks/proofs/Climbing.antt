@@ -1,10 +1,7 @@
 -- A climb, node by node.
 use Rattle.std.proofs.Common.{◌≡◌, ◌≢◌, ◌⊎◌, ℕ, zero, suc, ◌-◌, ◌<◌, ◌≤◌, List, [], ◌∷◌, ◌++◌, length, refl, sym, ap, ◌∙◌, subst, inl, inr, ⊎_elim, arith, Option, Some, None, cond, append_assoc, append-nil, length-append}
-use Rattle.psac_marks.proofs.Terms.{Member, times, MarksView, parent_word, Place, places, raised, climbs_from, IsBusy, IsKept, Leads, Rises, RaisedOne, MayRaise, climbed, one_of, bit}
+use Rattle.psac_marks.proofs.Terms.{eq-eqb, ne_eqb, cases_eq, ◌==◌, sum_by, sum_by-append, sum_by-cons, Member, times, MarksView, parent_word, Place, places, raised, climbs_from, IsBusy, IsKept, Leads, Rises, RaisedOne, MayRaise, climbed, one_of, bit}
 use Rattle.psac_marks.proofs.Parts.{times_push, bit_same}
-use Rattle.std.proofs.lemmas.Bool.{eq-eqb, ne_eqb, cases_eq}
-use Rattle.std.specs.Prelude.{◌==◌, sum_by}
-use Rattle.std.proofs.lemmas.List.Sums.{sum_by-append, sum_by-cons}
 
 -- how many places are of nodes whose mark the pass doesn't have
 abbrev pub unmarked : List ℕ → List Place → ℕ

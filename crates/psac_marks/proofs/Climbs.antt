@@ -1,8 +1,6 @@
 -- What steps make of the marks.
 use Rattle.std.proofs.Common.{◌≡◌, ◌≢◌, ℕ, ◌+◌, ◌*◌, ◌<◌, List, [], ◌∷◌, ◌++◌, length, set, refl, sym, ap, ◌∙◌, subst, inl, inr, ⊎_elim, arith, Option, Some, None}
-use Rattle.std.specs.Prelude.{◌==◌, filter}
-use Rattle.std.proofs.lemmas.Bool.{cases_eq}
-use Rattle.psac_marks.proofs.Terms.{some, some-injective, get_elem?, set_here, set_else, Member, times, bit, sum_set, all_set, mark_at, Place, Raising, Has, marks, Supported, Climbing, climbs_from, other}
+use Rattle.psac_marks.proofs.Terms.{◌==◌, filter, cases_eq, some, some-injective, get_elem?, set_here, set_else, Member, times, bit, sum_set, all_set, mark_at, Place, Raising, Has, marks, Supported, Climbing, climbs_from, other}
 use Rattle.psac_marks.proofs.Parts.{here, times_push, times_gone, times_else, bit_same, bit_other}
 
 -- a store beside the marks

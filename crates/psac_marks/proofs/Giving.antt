@@ -1,8 +1,6 @@
 -- A sole pass gives a node back.
 use Rattle.std.proofs.Common.{◌≡◌, ◌≢◌, ℕ, ◌+◌, ◌<◌, ◌≤◌, List, [], ◌∷◌, ◌++◌, map, length, set, true, refl, sym, ap, ◌∙◌, subst, inl, ⊎_elim, arith, Option, Some, None, length-set, mod-lt}
-use Rattle.std.specs.Prelude.{filter, not, ◌==◌}
-use Rattle.std.proofs.lemmas.Bool.{eq-eqb, ne_eqb, cases_eq}
-use Rattle.psac_marks.proofs.Terms.{some, some-injective, none as vacant, get_elem?, State, Allows, keeps, step, at_map, at_set, set_else, Handle, Member, word_of, later, slot_times, removed, times, Divided, sole_parts, one_given, filtered, sum_set, all_set, at_new, member_filter, filter_member, member_times, removed_gone, removed_else, off, changes, OwnView, SharedView, StateView, MarksView, state_at, free_word, Place, own_place, shared_place, places, claims_of, handle_of, ways, rights_of, Grown, tree_of, Raising, marks_of, Stating, states_of, Has, HasOwn, held_times, Tree, marks, Supported, Climbing, IsStated, AreStated, Marked, other, other_own, other_state, gave, Gave, Childless}
+use Rattle.psac_marks.proofs.Terms.{filter, not, ◌==◌, eq-eqb, ne_eqb, cases_eq, some, some-injective, none as vacant, get_elem?, State, Allows, keeps, step, at_map, at_set, set_else, Handle, Member, word_of, later, slot_times, removed, times, Divided, sole_parts, one_given, filtered, sum_set, all_set, at_new, member_filter, filter_member, member_times, removed_gone, removed_else, off, changes, OwnView, SharedView, StateView, MarksView, state_at, free_word, Place, own_place, shared_place, places, claims_of, handle_of, ways, rights_of, Grown, tree_of, Raising, marks_of, Stating, states_of, Has, HasOwn, held_times, Tree, marks, Supported, Climbing, IsStated, AreStated, Marked, other, other_own, other_state, gave, Gave, Childless}
 use Rattle.psac_slots.specs.Claiming as claiming
 use Rattle.psac_slots.proofs.Rewinds as turns
 use Rattle.psac_marks.proofs.Parts.{new_part, here, times_gone, times_else, place_own, place_cases}

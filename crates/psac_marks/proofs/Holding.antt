@@ -1,7 +1,6 @@
 -- What the rule says of one view, and of a pass that is the only one.
 use Rattle.std.proofs.Common.{◌≡◌, ◌≢◌, ℕ, List, [], map, true, false, true≢false, sym, ap, ◌∙◌, subst, ⊎_elim, arith, Some}
-use Rattle.std.proofs.lemmas.Bool.{cases_eq}
-use Rattle.psac_marks.proofs.Terms.{some, some-injective, get_elem?, at_map, Handle, ClaimView, is_prefix, Member, slot_times, IsDistinct, sole_parts, same_slot, member_times, at_most_once, sum_at, OwnView, SharedView, MarksView, Place, own_place, shared_place, places, claims_of, rights_of, Grown, tree_of, marks_of, Has, HasOwn, Marked, Holds}
+use Rattle.psac_marks.proofs.Terms.{cases_eq, some, some-injective, get_elem?, at_map, Handle, ClaimView, is_prefix, Member, slot_times, IsDistinct, sole_parts, same_slot, member_times, at_most_once, sum_at, OwnView, SharedView, MarksView, Place, own_place, shared_place, places, claims_of, rights_of, Grown, tree_of, marks_of, Has, HasOwn, Marked, Holds}
 use Rattle.psac_marks.proofs.Parts.{place_own, place_cases}
 use Rattle.psac_marks.proofs.Keeps.{at_mapped}
 use Rattle.psac_marks.proofs.Alone.{dead, nothing_shared, holds_own}

@@ -1,9 +1,6 @@
 -- Each step of one pass keeps the rule of marks.
 use Rattle.std.proofs.Common.{◌≡◌, ◌≢◌, ◌⊎◌, ℕ, zero, suc, ◌+◌, ◌*◌, ◌%◌, ◌^◌, ◌<◌, ◌≤◌, List, [], ◌∷◌, ◌++◌, map, length, set, take, drop, true, cond, refl, sym, ap, ◌∙◌, subst, inl, inr, ⊎_elim, arith, Option, Some, None, length-set}
-use Rattle.std.specs.Prelude.{◌==◌, sum_by, IfSome}
-use Rattle.std.proofs.lemmas.List.Sums.{sum_by-cons}
-use Rattle.std.proofs.lemmas.Bool.{eq-eqb, ne_eqb, cases_eq, le-ltb, cases_lt}
-use Rattle.psac_marks.proofs.Terms.{some, some-ne-none, some-injective, get_elem?, at_map, Handle, is_prefix, Member, slot_times, once_below, Rights, Divided, ClaimView, times, bit, sum_set, sum_at, sum_two, sum_none, all_set, member_left, member_right, member_cases, member_map, map_member, entry_at, later_member, member_times, at_most_once, prefix_refl, changes, OwnView, SharedView, StateView, MarksView, mark_at, parent_at, state_at, parent_word, Place, own_place, shared_place, places, claims_of, handle_of, ways, rights_of, Grown, tree_of, Raising, marks_of, Stating, states_of, Has, HasOwn, held_times, Tree, marks, Supported, Climbing, AreStated, Meeting, Marked, new_own, drew, Lacks, hang, hung, stated, raised, cleared, detached, MayRaise}
+use Rattle.psac_marks.proofs.Terms.{◌==◌, sum_by, IfSome, sum_by-cons, eq-eqb, ne_eqb, cases_eq, le-ltb, cases_lt, some, some-ne-none, some-injective, get_elem?, at_map, Handle, is_prefix, Member, slot_times, once_below, Rights, Divided, ClaimView, times, bit, sum_set, sum_at, sum_two, sum_none, all_set, member_left, member_right, member_cases, member_map, map_member, entry_at, later_member, member_times, at_most_once, prefix_refl, changes, OwnView, SharedView, StateView, MarksView, mark_at, parent_at, state_at, parent_word, Place, own_place, shared_place, places, claims_of, handle_of, ways, rights_of, Grown, tree_of, Raising, marks_of, Stating, states_of, Has, HasOwn, held_times, Tree, marks, Supported, Climbing, AreStated, Meeting, Marked, new_own, drew, Lacks, hang, hung, stated, raised, cleared, detached, MayRaise}
 use Rattle.psac_slots.specs.Claiming as claiming
 use Rattle.psac_slots.proofs.Keeps as laws
 use Rattle.psac_marks.proofs.Parts.{same_part, new_part, place_own, place_shared, place_cases}

@@ -1,8 +1,6 @@
 -- What the rule of marks gives.
 use Rattle.std.proofs.Common.{◌≡◌, ◌≢◌, ◌⊎◌, ℕ, ◌<◌, List, [], ◌∷◌, map, set, true, true≢false, refl, sym, ap, ◌∙◌, subst, inl, inr, ⊎_elim, arith, Option, Some, None}
-use Rattle.std.proofs.lemmas.Bool.{cases_eq, cases_lt}
-use Rattle.std.proofs.lemmas.List.Sums.{sum_by-cons}
-use Rattle.psac_marks.proofs.Terms.{some, some-injective, get_elem?, at_map, Member, Own, Beside, times, sum_set, sum_none, all_set, OwnView, SharedView, MarksView, parent_word, Place, own_place, shared_place, places, claims_of, rights_of, tree_of, Raising, marks_of, marks, HasOwn, Marked, spent, holders, Promised}
+use Rattle.psac_marks.proofs.Terms.{cases_eq, cases_lt, sum_by-cons, some, some-injective, get_elem?, at_map, Member, Own, Beside, times, sum_set, sum_none, all_set, OwnView, SharedView, MarksView, parent_word, Place, own_place, shared_place, places, claims_of, rights_of, tree_of, Raising, marks_of, marks, HasOwn, Marked, spent, holders, Promised}
 use Rattle.psac_slots.proofs.Kept as slots
 use Rattle.psac_marks.proofs.Parts.{place_cases}
 use Rattle.psac_marks.proofs.Keeps.{at_mapped, place_low, held_is, lacks}

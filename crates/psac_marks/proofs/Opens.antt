@@ -1,9 +1,6 @@
 -- The words at the start meet the rule of marks.
 use Rattle.std.proofs.Common.{◌≡◌, ◌≢◌, ℕ, zero, suc, ◌+◌, ◌*◌, ◌<◌, ◌≤◌, List, [], ◌∷◌, ◌++◌, map, length, refl, sym, ap, ◌∙◌, subst, ⊎_elim, arith, None, length-append}
-use Rattle.std.specs.Prelude.{IfSome}
-use Rattle.std.proofs.lemmas.List.{length-map}
-use Rattle.std.proofs.lemmas.Bool.{cases_lt}
-use Rattle.psac_marks.proofs.Terms.{at_longer, some, some-ne-none, get_elem?, Handle, Member, word_of, fresh, Own, Rights, length-fresh, at_new, OwnView, SharedView, MarksView, Place, Grown, Raising, Stating, rights_of, tree_of, marks_of, states_of, ways, Meeting, Marked, first_view, blank, first_words, Carries}
+use Rattle.psac_marks.proofs.Terms.{IfSome, length-map, cases_lt, at_longer, some, some-ne-none, get_elem?, Handle, Member, word_of, fresh, Own, Rights, length-fresh, at_new, OwnView, SharedView, MarksView, Place, Grown, Raising, Stating, rights_of, tree_of, marks_of, states_of, ways, Meeting, Marked, first_view, blank, first_words, Carries}
 use Rattle.psac_slots.proofs.Opens as slots
 
 pub length-blank : (n : ℕ) → length (blank n) ≡ 3 * n

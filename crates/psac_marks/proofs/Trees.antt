@@ -1,9 +1,6 @@
 -- What steps make of the tree.
 use Rattle.std.proofs.Common.{◌≡◌, ◌≢◌, ◌⊎◌, ℕ, ◌+◌, ◌*◌, ◌<◌, ◌≤◌, List, [], ◌∷◌, ◌++◌, map, length, set, Bool, true, cond, refl, sym, ap, ◌∙◌, subst, inl, inr, ⊎_elim, arith, Option, Some, None}
-use Rattle.std.specs.Prelude.{◌==◌}
-use Rattle.std.proofs.lemmas.List.Sums.{sum_by-append}
-use Rattle.std.proofs.lemmas.Bool.{eq-eqb, ne_eqb, cases_eq, cases_lt}
-use Rattle.psac_marks.proofs.Terms.{some, some-injective, get_elem?, at_set, set_here, set_else, Handle, is_prefix, Member, slot_times, times, bit, sum_set, sum_at, all_set, member_left, member_right, map_member, member_times, found, parent_at, parent_word, Place, Grown, Has, HasOwn, Out, held_times, Tree, new_own, hang}
+use Rattle.psac_marks.proofs.Terms.{◌==◌, sum_by-append, eq-eqb, ne_eqb, cases_eq, cases_lt, some, some-injective, get_elem?, at_set, set_here, set_else, Handle, is_prefix, Member, slot_times, times, bit, sum_set, sum_at, all_set, member_left, member_right, map_member, member_times, found, parent_at, parent_word, Place, Grown, Has, HasOwn, Out, held_times, Tree, new_own, hang}
 use Rattle.psac_marks.proofs.Parts.{here, times_push}
 
 none_some : {A : Type 0} (a : A) → ◌≡◌ {A = Option A} None (Some a) → ⊥

@@ -1,10 +1,6 @@
 -- Leaves and loads keep the rule, and what each step allows.
 use Rattle.std.proofs.Common.{◌≡◌, ◌≢◌, ℕ, suc, ◌+◌, ◌%◌, ◌^◌, ◌<◌, ◌≤◌, List, [], ◌∷◌, map, set, true, cond, refl, sym, ap, ◌∙◌, subst, ⊎_elim, arith, Option, Some, length-set}
-use Rattle.std.specs.Prelude.{sum_by, ◌==◌, slice_index}
-use Rattle.std.proofs.lemmas.List.Sums.{sum_by-cons}
-use Rattle.std.proofs.lemmas.List.{map-set, set-get_or}
-use Rattle.std.proofs.lemmas.Bool.{cases_eq, eq-eqb, ne_eqb}
-use Rattle.psac_readers.proofs.Terms.{some, none as vacant, get_elem?, State, Allows, keeps, step, at_map, set_here, set_else, set_again, sole_parts, tells, sum_set, all_set, Stage, Claimed, UnderWay, In, Dead, LinkView, ReadersView, Member, head_at, next_at, dead_at, node_at, Follows, in_set, is_dead, named, linked, alive, deads, Each, mods_of, claims_of, Staged, Knows, Placed, Tells, Readable, Has, Seat, drew, Drew, on_head, noded, Noded, swapped, Swapped, came, Came, die, left, Left, learned, front, IsSet, Began, Loaded, regained, Regained, rewound, Rewound}
+use Rattle.psac_readers.proofs.Terms.{sum_by, ◌==◌, slice_index, sum_by-cons, map-set, set-get_or, cases_eq, eq-eqb, ne_eqb, some, none as vacant, get_elem?, State, Allows, keeps, step, at_map, set_here, set_else, set_again, sole_parts, tells, sum_set, all_set, Stage, Claimed, UnderWay, In, Dead, LinkView, ReadersView, Member, head_at, next_at, dead_at, node_at, Follows, in_set, is_dead, named, linked, alive, deads, Each, mods_of, claims_of, Staged, Knows, Placed, Tells, Readable, Has, Seat, drew, Drew, on_head, noded, Noded, swapped, Swapped, came, Came, die, left, Left, learned, front, IsSet, Began, Loaded, regained, Regained, rewound, Rewound}
 use Rattle.psac_slots.specs.Claiming as claiming
 use Rattle.psac_slots.specs.Handles as handles
 use Rattle.psac_slots.proofs.Rewinds as turns

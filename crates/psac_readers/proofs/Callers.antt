@@ -1,8 +1,6 @@
 -- What a caller needs of forks and joins.
 use Rattle.std.proofs.Common.{◌≡◌, ℕ, ◌≤◌, List, [], ◌∷◌, ◌++◌, map, length, Bool, true, false, refl, ap, ◌∙◌, subst, inr, arith, Result, Ok, Err}
-use Rattle.std.specs.Prelude.{filter, not, IfOk, IfErr}
-use Rattle.std.proofs.lemmas.Bool.{le-ltb}
-use Rattle.psac_readers.proofs.Terms.{Full, stem, stem_push, WalkView, SharedView, ReadersView, Link, Member, comes_back as returns, mods_of, ways, Has, left_of, right_of, joined, unknown, drew, Entered, member_right, map_member, filter_member}
+use Rattle.psac_readers.proofs.Terms.{filter, not, IfOk, IfErr, le-ltb, Full, stem, stem_push, WalkView, SharedView, ReadersView, Link, Member, comes_back as returns, mods_of, ways, Has, left_of, right_of, joined, unknown, drew, Entered, member_right, map_member, filter_member}
 use Rattle.psac_readers.proofs.Sides.{in_told}
 
 module _ (f g : ℕ → Bool) (v : ReadersView) (m : ℕ) (mine : Member m (mods_of v.walk)) where

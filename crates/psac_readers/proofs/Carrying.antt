@@ -1,9 +1,6 @@
 -- What passes carry over forks, joins and leaves.
 use Rattle.std.proofs.Common.{◌≡◌, ◌⊎◌, ℕ, ◌+◌, ◌-◌, ◌<◌, List, [], ◌∷◌, length, take, Bool, true, false, cond, refl, sym, ap, ◌∙◌, subst, inl, inr, ⊎_elim, arith, Some}
-use Rattle.std.specs.Prelude.{sum_by, not, ◌==◌}
-use Rattle.std.proofs.lemmas.List.Sums.{sum_by-cons}
-use Rattle.std.proofs.lemmas.Bool.{eq-eqb, eqb-true}
-use Rattle.psac_readers.proofs.Terms.{Stage, Claimed, UnderWay, In, Dead, LinkView, ReadersView, named, alive, is_live, Each, rest_is, regained, rewound, Fine, is_settled, die, dying, left, learned, left_of, right_of, joined, right_link, Carries}
+use Rattle.psac_readers.proofs.Terms.{sum_by, not, ◌==◌, sum_by-cons, eq-eqb, eqb-true, Stage, Claimed, UnderWay, In, Dead, LinkView, ReadersView, named, alive, is_live, Each, rest_is, regained, rewound, Fine, is_settled, die, dying, left, learned, left_of, right_of, joined, right_link, Carries}
 use Rattle.psac_slots.specs.Claiming as claiming
 use Rattle.psac_readers.proofs.Links.{each_append, each_filter, each_map, each_imp}
 

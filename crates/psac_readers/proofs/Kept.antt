@@ -1,8 +1,6 @@
 -- What the rule of reader sets gives.
 use Rattle.std.proofs.Common.{◌≡◌, ◌≢◌, ℕ, ◌≤◌, List, [], ◌∷◌, map, sym, ap, ◌∙◌, subst, ⊎_elim, arith}
-use Rattle.std.specs.Prelude.{sum_by}
-use Rattle.std.proofs.lemmas.Bool.{cases_eq}
-use Rattle.psac_readers.proofs.Terms.{some, some-injective, get_elem?, at_map, ClaimView, Member, at_most_once, sum_at, sum_two, Stage, Claimed, UnderWay, In, Dead, LinkView, ReadersView, next_at, named, linked, deads, Each, claims_of, rights_of, Staged, Readable, is_settled, Promised}
+use Rattle.psac_readers.proofs.Terms.{sum_by, cases_eq, some, some-injective, get_elem?, at_map, ClaimView, Member, at_most_once, sum_at, sum_two, Stage, Claimed, UnderWay, In, Dead, LinkView, ReadersView, next_at, named, linked, deads, Each, claims_of, rights_of, Staged, Readable, is_settled, Promised}
 use Rattle.psac_slots.specs.Handles as handles
 use Rattle.psac_slots.proofs.Kept as slots
 use Rattle.psac_readers.proofs.Links.{sum_map, sum_under, linked_named, alive_deads}

@@ -1,7 +1,6 @@
 -- The first words and the first view meet the rule.
 use Rattle.std.proofs.Common.{◌≡◌, ◌⊎◌, ℕ, zero, suc, ◌+◌, ◌*◌, ◌<◌, ◌≤◌, List, [], ◌∷◌, ◌++◌, map, length, true, false, true≢false, refl, sym, ap, ◌∙◌, subst, inl, inr, ⊎_elim, arith, Option, Some, length-append}
-use Rattle.std.proofs.lemmas.List.{length-map}
-use Rattle.psac_readers.proofs.Terms.{some, some-ne-none, some-injective, get_elem?, at_longer, at_last, length-fresh, Own, Each, Seen, Tells, Readable, rights_of, ways, dead_at, first_walk, first_view, zeros, first_words, Carries}
+use Rattle.psac_readers.proofs.Terms.{length-map, some, some-ne-none, some-injective, get_elem?, at_longer, at_last, length-fresh, Own, Each, Seen, Tells, Readable, rights_of, ways, dead_at, first_walk, first_view, zeros, first_words, Carries}
 use Rattle.psac_slots.specs.Handles as handles
 use Rattle.psac_slots.proofs.Opens as laws
 use Rattle.psac_readers.proofs.Links.{each_append}

@@ -1,8 +1,6 @@
 -- A sole pass sets the counter back.
 use Rattle.std.proofs.Common.{◌≡◌, ℕ, ◌+◌, ◌≤◌, List, [], ◌∷◌, map, set, take, drop, length, inl, true, refl, sym, ap, ◌∙◌, subst, arith, Some, length-set}
-use Rattle.std.specs.Prelude.{sum_by}
-use Rattle.std.proofs.lemmas.List.{map-set}
-use Rattle.psac_readers.proofs.Terms.{some, get_elem?, at_map, set_else, set_again, ClaimView, sum_set, sum_at, sum_none, all_set, LinkView, ReadersView, Handle, Member, WalkView, SharedView, head_at, dead_at, named, linked, deads, times, Each, mods_of, claims_of, rights_of, Knows, Placed, Seen, Tells, Readable, spent, rewound, regained, Holds}
+use Rattle.psac_readers.proofs.Terms.{sum_by, map-set, some, get_elem?, at_map, set_else, set_again, ClaimView, sum_set, sum_at, sum_none, all_set, LinkView, ReadersView, Handle, Member, WalkView, SharedView, head_at, dead_at, named, linked, deads, times, Each, mods_of, claims_of, rights_of, Knows, Placed, Seen, Tells, Readable, spent, rewound, regained, Holds}
 use Rattle.psac_slots.specs.Claiming as claiming
 use Rattle.psac_slots.specs.Handles as handles
 use Rattle.psac_slots.proofs.Rewinds as turns

@@ -1,9 +1,6 @@
 -- A walk that takes links off.
 use Rattle.std.proofs.Common.{◌≡◌, ◌≢◌, ◌⊎◌, ℕ, suc, ◌+◌, ◌-◌, ◌<◌, ◌≤◌, List, [], ◌∷◌, ◌++◌, map, length, Bool, true, false, true≢false, cond, refl, sym, ap, ◌∙◌, subst, inl, ⊎_elim, arith, Option, Some, None, append_assoc, append-nil}
-use Rattle.std.specs.Prelude.{sum_by, filter, ◌==◌}
-use Rattle.std.proofs.lemmas.Bool.{eq-eqb, eqb-true, ne_eqb, cases_eq, cases_lt}
-use Rattle.std.proofs.lemmas.List.Sums.{sum_by-cons}
-use Rattle.psac_readers.proofs.Terms.{Handle, ClaimView, Member, slot_times, removed, member_times, removed_gone, removed_else, Stage, Claimed, UnderWay, In, Dead, LinkView, WalkView, ReadersView, head_at, next_at, in_set, is_live, named, linked, alive, deads, times, Each, mods_of, chain_of, learn, learned, front, behind, without, known_without, lose, other_link, swept_one, swept, IsSet, is_settled, Fine, Holds, from_word, or_empty, Walks, Placing, TakenOff, Going, remaining, AllGiven}
+use Rattle.psac_readers.proofs.Terms.{sum_by, filter, ◌==◌, eq-eqb, eqb-true, ne_eqb, cases_eq, cases_lt, sum_by-cons, Handle, ClaimView, Member, slot_times, removed, member_times, removed_gone, removed_else, Stage, Claimed, UnderWay, In, Dead, LinkView, WalkView, ReadersView, head_at, next_at, in_set, is_live, named, linked, alive, deads, times, Each, mods_of, chain_of, learn, learned, front, behind, without, known_without, lose, other_link, swept_one, swept, IsSet, is_settled, Fine, Holds, from_word, or_empty, Walks, Placing, TakenOff, Going, remaining, AllGiven}
 use Rattle.psac_slots.specs.Claiming as claiming
 use Rattle.psac_readers.proofs.Links.{each_filter, mods_learn}
 use Rattle.psac_readers.proofs.Walking.{chain_learn, chain_named}

@@ -1,10 +1,6 @@
 -- The steps by which a sole pass takes a link off its set and gives it back.
 use Rattle.std.proofs.Common.{◌≡◌, ◌≢◌, ℕ, ◌+◌, ◌<◌, ◌≤◌, List, [], ◌∷◌, ◌++◌, map, length, set, Bool, true, false, true≢false, cond, refl, sym, ap, ◌∙◌, subst, ⊎_elim, arith, length-set, mod-lt}
-use Rattle.std.specs.Prelude.{sum_by, filter, not, ◌==◌}
-use Rattle.std.proofs.lemmas.List.Sums.{sum_by-cons}
-use Rattle.std.proofs.lemmas.List.{map-set}
-use Rattle.std.proofs.lemmas.Bool.{eq-eqb, eqb-true, ne_eqb, cases_eq}
-use Rattle.psac_readers.proofs.Terms.{some, get_elem?, at_map, set_here, set_else, Handle, removed_gone, removed_else, sum_set, sum_at, all_set, Stage, Claimed, UnderWay, In, Dead, LinkView, ReadersView, head_at, dead_at, in_set, is_dead, named, linked, deads, Each, mods_of, claims_of, Staged, Knows, Placed, Tells, Readable, reviving, revive, revived, other_link, freed, is_settled, settled}
+use Rattle.psac_readers.proofs.Terms.{sum_by, filter, not, ◌==◌, sum_by-cons, map-set, eq-eqb, eqb-true, ne_eqb, cases_eq, some, get_elem?, at_map, set_here, set_else, Handle, removed_gone, removed_else, sum_set, sum_at, all_set, Stage, Claimed, UnderWay, In, Dead, LinkView, ReadersView, head_at, dead_at, in_set, is_dead, named, linked, deads, Each, mods_of, claims_of, Staged, Knows, Placed, Tells, Readable, reviving, revive, revived, other_link, freed, is_settled, settled}
 use Rattle.psac_slots.specs.Handles as handles
 use Rattle.psac_slots.specs.Claiming as claiming
 use Rattle.psac_slots.proofs.Rewinds as turns

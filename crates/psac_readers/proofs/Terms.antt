@@ -1,6 +1,12 @@
--- What the proofs of this crate speak of: the words of its specs, and lists, handles and claims.
+-- What the proofs of this crate speak of: lists, tests and sums, handles and claims, and the words of its specs.
 pub use Rattle.atomic_table.proofs.Lists.{at_last, at_longer, at_map, set_again, set_else, set_here}
 pub use Rattle.atomic_table.specs.Table.{Allows, State, Step, keeps, step}
+pub use Rattle.std.proofs.lemmas.Bool.{cases_Bool, cases_eq, cases_lt, eq-eqb, eqb-true, le-ltb, lt-ltb, ltb-true, ne_eqb}
+pub use Rattle.std.proofs.lemmas.List.{length-map, map-append, map-set, set-get_or}
+pub use Rattle.std.proofs.lemmas.List.Sums.{sum_by-append, sum_by-cons, sum_by_push}
+pub use Rattle.std.specs.Prelude.{IfErr, IfOk, IfSome, filter, not, slice_index, sum_by, ◌&&◌, ◌==◌}
+pub use lib.ListN.{get_elem?}
+pub use mathlib.Core.Option.{none, some, some-injective, some-ne-none}
 pub use Rattle.psac_ops.specs.declared.plain.Handle.{Handle}
 pub use Rattle.psac_slots.proofs.Acts.{sole_parts, tells}
 pub use Rattle.psac_slots.proofs.Carrying.{accounted_returned, has_room}
@@ -16,8 +22,6 @@ pub use Rattle.psac_slots.specs.Divided.{Divided, Own, Rights, above, comes_back
 pub use Rattle.psac_slots.specs.Handles.{Member, fresh, removed, slot_times, word_of}
 pub use Rattle.psac_slots.specs.declared.full.Full.{Full}
 pub use Rattle.psac_slots.specs.declared.view.ClaimView.{ClaimView}
-pub use lib.ListN.{get_elem?}
-pub use mathlib.Core.Option.{none, some, some-injective, some-ne-none}
 pub use Rattle.psac_readers.specs.Chained.{Each, Follows, Knows, Placed, Readable, Seen, Staged, Tells, alive, claims_of, dead_at, deads, head_at, in_set, is_dead, is_live, labelled, linked, mods_of, named, next_at, node_at, rights_of, times, ways}
 pub use Rattle.psac_readers.specs.Passes.{Carries, OnWalk, Placing, Walks, found, from_word, has_word, or_empty}
 pub use Rattle.psac_readers.specs.Promised.{Promised}

@@ -1,8 +1,6 @@
 -- A link is taken off its set.
 use Rattle.std.proofs.Common.{◌≡◌, ◌≢◌, ◌⊎◌, ℕ, suc, ◌+◌, ◌<◌, ◌≤◌, List, [], ◌∷◌, ◌++◌, map, set, Bool, true, false, cond, refl, sym, ap, ◌∙◌, subst, inl, inr, ⊎_elim, arith, Option, Some, None, length-set, append_assoc}
-use Rattle.std.specs.Prelude.{sum_by, ◌==◌}
-use Rattle.std.proofs.lemmas.Bool.{eq-eqb, eqb-true, ne_eqb, cases_eq}
-use Rattle.psac_readers.proofs.Terms.{some, get_elem?, set_here, set_else, Member, sum_set, all_set, Stage, Claimed, UnderWay, In, Dead, LinkView, WalkView, ReadersView, head_at, next_at, dead_at, node_at, Follows, in_set, is_live, is_dead, named, linked, alive, deads, times, Each, mods_of, Staged, Knows, Placed, Seen, Tells, Readable, leaving, take_off, without, known_without, lose, unlinked, led_from, is_settled, Fine, front}
+use Rattle.psac_readers.proofs.Terms.{sum_by, ◌==◌, eq-eqb, eqb-true, ne_eqb, cases_eq, some, get_elem?, set_here, set_else, Member, sum_set, all_set, Stage, Claimed, UnderWay, In, Dead, LinkView, WalkView, ReadersView, head_at, next_at, dead_at, node_at, Follows, in_set, is_live, is_dead, named, linked, alive, deads, times, Each, mods_of, Staged, Knows, Placed, Seen, Tells, Readable, leaving, take_off, without, known_without, lose, unlinked, led_from, is_settled, Fine, front}
 use Rattle.psac_slots.specs.Handles as handles
 use Rattle.psac_readers.proofs.Links.{each_imp, each_map, each_named, sum_map, sum_same, sum_plus, sum_under, only_here, linked_named, alive_deads, follows_else, knows_set, is_there, next_word, front_is}
 use Rattle.psac_readers.proofs.Walking.{all_whole}

@@ -1,8 +1,6 @@
 -- The words at the start meet the rule of values.
 use Rattle.std.proofs.Common.{◌≡◌, ℕ, zero, suc, ◌+◌, ◌*◌, ◌<◌, ◌≤◌, List, [], ◌∷◌, ◌++◌, map, length, refl, sym, ap, ◌∙◌, subst, ⊎_elim, arith, Option, Some, length-append}
-use Rattle.std.proofs.lemmas.List.{length-map}
-use Rattle.std.proofs.lemmas.Bool.{cases_lt}
-use Rattle.psac_values.proofs.Terms.{at_longer, some, some-ne-none, some-injective, get_elem?, Handle, Member, word_of, fresh, Own, Rights, length-fresh, at_new, member_cases, OwnedView, KnownView, ValueView, state_at, value_at, rights_of, ways, Whole, Fits, Made, Valued, first_mine, first_view, repeated, first_words, Carries}
+use Rattle.psac_values.proofs.Terms.{length-map, cases_lt, at_longer, some, some-ne-none, some-injective, get_elem?, Handle, Member, word_of, fresh, Own, Rights, length-fresh, at_new, member_cases, OwnedView, KnownView, ValueView, state_at, value_at, rights_of, ways, Whole, Fits, Made, Valued, first_mine, first_view, repeated, first_words, Carries}
 use Rattle.psac_slots.proofs.Opens as slots
 
 pub length-repeated : (x n : ℕ) → length (repeated x n) ≡ n

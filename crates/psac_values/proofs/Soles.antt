@@ -1,8 +1,6 @@
 -- The steps of a sole pass keep the rule of values.
 use Rattle.std.proofs.Common.{◌≡◌, ◌≢◌, ℕ, zero, suc, ◌+◌, ◌-◌, ◌*◌, ◌<◌, ◌≤◌, List, [], ◌∷◌, ◌++◌, map, length, set, take, drop, true, false, true≢false, refl, sym, ap, ◌∙◌, subst, inl, ⊎_elim, arith, Some, length-set, mod-lt}
-use Rattle.std.specs.Prelude.{◌==◌}
-use Rattle.std.proofs.lemmas.Bool.{eq-eqb, lt-ltb}
-use Rattle.psac_values.proofs.Terms.{some, get_elem?, at_map, set_else, Handle, Member, word_of, later, slot_times, removed, once_below, ClaimView, bit, at_drop, at_new, member_filter, filtered, found, removed_else, changes, off, KnownView, StateView, ValueView, state_at, free_word, claims_of, handle_of, rights_of, ways, held_times, Made, Valued, learned, rewound, other_owned, other_state, gave}
+use Rattle.psac_values.proofs.Terms.{◌==◌, eq-eqb, lt-ltb, some, get_elem?, at_map, set_else, Handle, Member, word_of, later, slot_times, removed, once_below, ClaimView, bit, at_drop, at_new, member_filter, filtered, found, removed_else, changes, off, KnownView, StateView, ValueView, state_at, free_word, claims_of, handle_of, rights_of, ways, held_times, Made, Valued, learned, rewound, other_owned, other_state, gave}
 use Rattle.psac_slots.specs.Claiming as claiming
 use Rattle.psac_slots.proofs.Rewinds as turns
 use Rattle.psac_values.proofs.Words.{whole_else, stated_else, fits_low}

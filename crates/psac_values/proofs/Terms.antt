@@ -1,6 +1,12 @@
--- What the proofs of this crate speak of: the words of its specs, and lists, handles and claims.
+-- What the proofs of this crate speak of: lists, tests and sums, handles and claims, and the words of its specs.
 pub use Rattle.atomic_table.proofs.Lists.{at_longer, at_map, at_set, set_again, set_else, set_here}
 pub use Rattle.atomic_table.specs.Table.{Allows, Joins, Splits, State, Step, keeps, step}
+pub use Rattle.std.proofs.lemmas.Bool.{cases_Bool, cases_eq, cases_lt, eq-eqb, eqb-true, le-ltb, lt-ltb, ne_eqb}
+pub use Rattle.std.proofs.lemmas.List.{length-map, map-append, map-set, set-get_or}
+pub use Rattle.std.proofs.lemmas.List.Sums.{sum_by-append, sum_by_push}
+pub use Rattle.std.specs.Prelude.{IfSome, cond, filter, not, slice_index, sum_by, ◌&&◌, ◌==◌, ◌||◌}
+pub use lib.ListN.{get_elem?}
+pub use mathlib.Core.Option.{none, some, some-injective, some-ne-none}
 pub use Rattle.psac_ops.specs.declared.plain.Handle.{Handle}
 pub use Rattle.psac_slots.proofs.Carrying.{accounted_returned}
 pub use Rattle.psac_slots.proofs.Dividing.{Unknown, changes, divides, meets, off, unites}
@@ -16,8 +22,6 @@ pub use Rattle.psac_slots.specs.Divided.{Divided, Own, Rights, above, comes_back
 pub use Rattle.psac_slots.specs.Given.{by_slot, only}
 pub use Rattle.psac_slots.specs.Handles.{IsDistinct, IsHandle, Member, fresh, later, once_below, removed, slot_times, word_of}
 pub use Rattle.psac_slots.specs.declared.view.ClaimView.{ClaimView}
-pub use lib.ListN.{get_elem?}
-pub use mathlib.Core.Option.{none, some, some-injective, some-ne-none}
 pub use Rattle.psac_values.specs.Carried.{Carries}
 pub use Rattle.psac_values.specs.Knowing.{Has, IsLive, IsOut, Knows, United, all_words, claimed_as, rewritten, took, wrote}
 pub use Rattle.psac_values.specs.Promised.{Promised}

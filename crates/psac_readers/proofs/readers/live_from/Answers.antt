@@ -1,6 +1,5 @@
 use Rattle.std.proofs.Common.{ℕ, List, ◌≢◌, ◌<◌, ◌≤◌, ◌-◌, sym, ap, subst, ◌∙◌, arith}
-use Rattle.std.specs.Prelude.{sum_by}
-use Rattle.psac_readers.proofs.Terms.{ReadersView, Each, Fine, Walks, has_word, named, deads, settled, chain_of}
+use Rattle.psac_readers.proofs.Terms.{sum_by, ReadersView, Each, Fine, Walks, has_word, named, deads, settled, chain_of}
 use Rattle.psac_readers.proofs.Acts.{loads}
 use Rattle.psac_readers.proofs.Walking.{Turn, turn, turn_live, turn_dead, turn_settled}
 use Rattle.psac_readers.proofs.readers.live_from.Goals as goal

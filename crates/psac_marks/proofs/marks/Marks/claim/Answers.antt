@@ -1,6 +1,5 @@
 use Rattle.std.proofs.Common.{ℕ, suc, ◌+◌, ◌*◌, ◌%◌, ◌/◌, ◌∷◌, [], List, map, ◌≤◌, ◌<◌, ◌≡◌, length, sym, ap, subst, ◌∙◌, arith, mod-lt, refl, cond, ltb, zero, inl, Option, Some}
-use Rattle.std.proofs.lemmas.Bool.{lt-ltb}
-use Rattle.psac_marks.proofs.Terms.{Step, Handle, Member, entry, times, member_left, member_right, map_member, MarksView, parent_at, parent_word, state_at, out_word, places, Has, HasOwn, Seat, Drew, Loaded, Tells, Lacks, new_own, new_state, drew, hung, stated, Carries, slot_of, took}
+use Rattle.psac_marks.proofs.Terms.{lt-ltb, Step, Handle, Member, entry, times, member_left, member_right, map_member, MarksView, parent_at, parent_word, state_at, out_word, places, Has, HasOwn, Seat, Drew, Loaded, Tells, Lacks, new_own, new_state, drew, hung, stated, Carries, slot_of, took}
 use Rattle.psac_marks.proofs.Acts.{draws, loads, hangs, states}
 use Rattle.psac_marks.proofs.Carrying.{carries_past, carries_took, took_is, found_here, drew_has, parent_has}
 use Rattle.psac_marks.proofs.marks.Marks.claim.Goals as goal

@@ -1,7 +1,5 @@
 use Rattle.std.proofs.Common.{ℕ, zero, suc, ◌<◌, ◌≡◌, true≢false, sym, ap, subst, ◌∙◌, arith}
-use Rattle.std.specs.Prelude.{◌==◌, not, IsTrue}
-use Rattle.std.proofs.lemmas.Bool.{ne_eqb}
-use Rattle.psac_marks.proofs.Terms.{Handle, times, MarksView, own_place, HasOwn, IsClosed, Carries, Owns}
+use Rattle.psac_marks.proofs.Terms.{◌==◌, not, IsTrue, ne_eqb, Handle, times, MarksView, own_place, HasOwn, IsClosed, Carries, Owns}
 use Rattle.psac_marks.proofs.Parts.{place_own}
 use Rattle.psac_marks.proofs.Acts.{asks}
 use Rattle.psac_marks.proofs.Carrying.{carries_asked}

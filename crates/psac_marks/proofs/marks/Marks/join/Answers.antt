@@ -1,6 +1,5 @@
 use Rattle.std.proofs.Common.{◌≡◌, ◌<◌, ℕ, sym, ap, subst, ◌∙◌, arith, Option, None}
-use Rattle.std.specs.Prelude.{IfSome}
-use Rattle.psac_marks.proofs.Terms.{set_else, Member, times, SharedView, MetView, MarksView, places, HasOwn, Meeting, joined, met, IsClosed, Carries, United}
+use Rattle.psac_marks.proofs.Terms.{IfSome, set_else, Member, times, SharedView, MetView, MarksView, places, HasOwn, Meeting, joined, met, IsClosed, Carries, United}
 use Rattle.psac_marks.proofs.Acts.{settles}
 use Rattle.psac_marks.proofs.Uniting.{joins_at, unites_views}
 use Rattle.psac_marks.proofs.Handed.{carries_joined}

@@ -1,6 +1,5 @@
 use Rattle.std.proofs.Common.{◌<◌, sym, ap, subst, ◌∙◌, arith}
-use Rattle.std.specs.Prelude.{sum_by}
-use Rattle.psac_readers.proofs.Terms.{named, Walks}
+use Rattle.psac_readers.proofs.Terms.{sum_by, named, Walks}
 use Rattle.psac_readers.proofs.Acts.{loads}
 use Rattle.psac_readers.proofs.Walking.{chain_named, named_low, all_whole}
 use Rattle.psac_readers.proofs.readers.Readers.after.Goals as goal

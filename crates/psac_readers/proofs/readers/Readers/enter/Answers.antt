@@ -1,7 +1,5 @@
 use Rattle.std.proofs.Common.{◌≡◌, ℕ, ◌<◌, ◌+◌, ◌%◌, [], length, sym, ap, subst, refl, ◌∙◌, arith, mod-lt, cond, ltb}
-use Rattle.std.proofs.lemmas.Bool.{lt-ltb}
-use Rattle.psac_readers.proofs.Terms.{Has, drew, entered, named, Carries, entry, new_link, noded, way}
-use Rattle.std.specs.Prelude.{sum_by}
+use Rattle.psac_readers.proofs.Terms.{lt-ltb, sum_by, Has, drew, entered, named, Carries, entry, new_link, noded, way}
 use Rattle.psac_readers.proofs.Acts.{draws, loads, nodes, swaps, comes}
 use Rattle.psac_readers.proofs.Entering.{Got, got, last, carries, handle_of, place_is, F_node, F_swap, still_has}
 use Rattle.psac_readers.proofs.readers.Readers.enter.Goals as goal

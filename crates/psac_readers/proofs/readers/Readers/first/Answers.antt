@@ -1,6 +1,5 @@
 use Rattle.std.proofs.Common.{ℕ, List, ◌≡◌, ◌≤◌, sym, ap, subst, ◌∙◌, arith, Some}
-use Rattle.std.specs.Prelude.{sum_by, IfSome}
-use Rattle.psac_readers.proofs.Terms.{ReadersView, Member, Each, mods_of, named, Fine, IsSet, chain_of, learned, next_live, Carries, Walks, OnWalk, or_empty, has_word, from_word}
+use Rattle.psac_readers.proofs.Terms.{sum_by, IfSome, ReadersView, Member, Each, mods_of, named, Fine, IsSet, chain_of, learned, next_live, Carries, Walks, OnWalk, or_empty, has_word, from_word}
 use Rattle.psac_readers.proofs.Acts.{begins}
 use Rattle.psac_readers.proofs.Carrying.{carries_learned}
 use Rattle.psac_readers.proofs.Walking.{chain_learn, word_whole, on_walk}

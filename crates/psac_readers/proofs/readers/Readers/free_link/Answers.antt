@@ -1,6 +1,5 @@
 use Rattle.std.proofs.Common.{List, ℕ, ◌≡◌, ◌<◌, ◌+◌, ◌%◌, suc, refl, sym, ap, subst, ◌∙◌, arith, length, Some, mod-lt, true, ◌++◌, ◌∷◌}
-use Rattle.std.specs.Prelude.{sum_by}
-use Rattle.psac_readers.proofs.Terms.{Step, place as place_of, Accounted, ReadersView, named, alive, mods_of, head_at, Each, Seat, Unlinked, revived, unlinked, freed, swept_one, chain_of, led_from, Fine, Carries, Placing, Member}
+use Rattle.psac_readers.proofs.Terms.{sum_by, Step, place as place_of, Accounted, ReadersView, named, alive, mods_of, head_at, Each, Seat, Unlinked, revived, unlinked, freed, swept_one, chain_of, led_from, Fine, Carries, Placing, Member}
 use Rattle.psac_slots.specs.Handles as handles
 use Rattle.psac_readers.proofs.Freeing.{revives, unlinks, frees}
 use Rattle.psac_readers.proofs.Walking.{named_low}
@@ -37,6 +36,15 @@ module _ (links mods head room words : ℕ) (v : ReadersView) (p : Carries links
 
   freed_is : (two three : Seat) → two ≡ (unlinked l (revived l v), hs) → (three ≡ (freed l two.0, two.1)) × (0 < handles.slot_times l two.0.claims.held) → (three ≡ (swept_one l v, hs)) × (0 < handles.slot_times l v.claims.held)
   freed_is two three e f = (f.0 ∙ (ap (λ (m : Seat). (freed l m.0, m.1)) e ∙ ap (λ u. (u, hs)) (freed_all l v)), subst (λ (m : Seat). 0 < handles.slot_times l m.0.claims.held) e f.1)
+
+-- what the three steps leave, of a pass that knew old
+swept_is : (links mods head room words : ℕ) (v old : ReadersView) → Carries links mods head room words v → (hs : List (ℕ × Unit {0})) (l before next : ℕ) → v ≡ old → 0 < sum_by (named l) old.links → Placing old before l next
+    → (one two three : Seat) (s : Step (Unit {0})) (n : ℕ) → one ≡ (revived l v, hs) → Unlinked s one n two → s.word ≡ before → (three ≡ (freed l two.0, two.1)) × (0 < handles.slot_times l two.0.claims.held)
+    → (three ≡ (swept_one l v, hs)) × (0 < handles.slot_times l v.claims.held)
+swept_is links mods head room words v old p hs l before next is has at one two three s n e u is_before f =
+    let own = subst (λ (u : ReadersView). 0 < sum_by (named l) u.links) (sym is) has in
+    let pl = subst (λ (u : ReadersView). Placing u before l next) (sym is) at in
+    freed_is links mods head room words v p hs l before next own pl two three (unlinked_is links mods head room words v p hs l before next own pl one e s n two u is_before) f
 
 pub store-requires : goal.store-requires
 store-requires c =
@@ -99,10 +107,7 @@ overflow_add-pass c =
     let p = c.pass.invariant.1 in
     let v = c.pass.inside.seat.me.0 in
     let l = c.args.link in
-    let own = subst (λ (u : ReadersView). 0 < sum_by (named c.args.link) u.links) (sym iv) c.requires.own in
-    let pl = subst (λ (u : ReadersView). Placing u c.args.before c.args.link c.args.next) (sym iv) c.requires.place in
-    let e = unlinked_is _ _ _ _ _ v p _ l c.args.before c.args.next own pl _ (c.store.ensures.2 l (omega (arith, p.links_is, p.mods_is))) _ _ _ c.swap.ensures.2 refl in
-    let f = freed_is _ _ _ _ _ v p _ l c.args.before c.args.next own pl _ _ e (c.store-2.ensures.2 l (omega (arith, c.from-4.ensures))) in
+    let f = swept_is _ _ _ _ _ v _ p _ l c.args.before c.args.next iv c.requires.own c.requires.place _ _ _ _ _ (c.store.ensures.2 l (omega (arith, p.links_is, p.mods_is))) c.swap.ensures.2 refl (c.store-2.ensures.2 l (omega (arith, c.from-4.ensures))) in
     omega (arith, (room_after l v f.1 (subst (λ (u : ReadersView). Accounted u.claims) (sym iv) c.requires.whole)).0, p.room_is, p.links_is, p.small)
 
 pub invariant_of-pass : goal.invariant_of-pass
@@ -111,10 +116,7 @@ invariant_of-pass c =
     let p = c.pass.invariant.1 in
     let v = c.pass.inside.seat.me.0 in
     let l = c.args.link in
-    let own = subst (λ (u : ReadersView). 0 < sum_by (named c.args.link) u.links) (sym iv) c.requires.own in
-    let pl = subst (λ (u : ReadersView). Placing u c.args.before c.args.link c.args.next) (sym iv) c.requires.place in
-    let e = unlinked_is _ _ _ _ _ v p _ l c.args.before c.args.next own pl _ (c.store.ensures.2 l (omega (arith, p.links_is, p.mods_is))) _ _ _ c.swap.ensures.2 refl in
-    let f = freed_is _ _ _ _ _ v p _ l c.args.before c.args.next own pl _ _ e (c.store-2.ensures.2 l (omega (arith, c.from-4.ensures))) in
+    let f = swept_is _ _ _ _ _ v _ p _ l c.args.before c.args.next iv c.requires.own c.requires.place _ _ _ _ _ (c.store.ensures.2 l (omega (arith, p.links_is, p.mods_is))) c.swap.ensures.2 refl (c.store-2.ensures.2 l (omega (arith, c.from-4.ensures))) in
     (ap (λ m. m.1) f.0 ∙ c.pass.invariant.0, subst (λ (x : ℕ × ReadersView). Carries c.pass.inside.links c.pass.inside.mods c.pass.inside.head (c.pass.inside.room + 1) x.0 x.1) (λ j. (ap (λ z. z.words) (sym (c.store-2.ensures.0 ∙ (c.swap.ensures.0 ∙ c.store.ensures.0))) j, sym (ap (λ m. m.0) f.0) j)) (carries_swept _ _ _ _ _ l v p (room_after l v f.1 (subst (λ (u : ReadersView). Accounted u.claims) (sym iv) c.requires.whole)).0))
 
 pub returns-clause-freed : goal.returns-clause-freed
@@ -123,10 +125,7 @@ returns-clause-freed c =
     let p = c.pass.invariant.1 in
     let v = c.pass.inside.seat.me.0 in
     let l = c.args.link in
-    let own = subst (λ (u : ReadersView). 0 < sum_by (named c.args.link) u.links) (sym iv) c.requires.own in
-    let pl = subst (λ (u : ReadersView). Placing u c.args.before c.args.link c.args.next) (sym iv) c.requires.place in
-    let e = unlinked_is _ _ _ _ _ v p _ l c.args.before c.args.next own pl _ (c.store.ensures.2 l (omega (arith, p.links_is, p.mods_is))) _ _ _ c.swap.ensures.2 refl in
-    let f = freed_is _ _ _ _ _ v p _ l c.args.before c.args.next own pl _ _ e (c.store-2.ensures.2 l (omega (arith, c.from-4.ensures))) in
+    let f = swept_is _ _ _ _ _ v _ p _ l c.args.before c.args.next iv c.requires.own c.requires.place _ _ _ _ _ (c.store.ensures.2 l (omega (arith, p.links_is, p.mods_is))) c.swap.ensures.2 refl (c.store-2.ensures.2 l (omega (arith, c.from-4.ensures))) in
     ap (λ m. m.0) f.0 ∙ ap (swept_one l) iv
 
 pub returns-clause-whole : goal.returns-clause-whole
@@ -135,8 +134,5 @@ returns-clause-whole c =
     let p = c.pass.invariant.1 in
     let v = c.pass.inside.seat.me.0 in
     let l = c.args.link in
-    let own = subst (λ (u : ReadersView). 0 < sum_by (named c.args.link) u.links) (sym iv) c.requires.own in
-    let pl = subst (λ (u : ReadersView). Placing u c.args.before c.args.link c.args.next) (sym iv) c.requires.place in
-    let e = unlinked_is _ _ _ _ _ v p _ l c.args.before c.args.next own pl _ (c.store.ensures.2 l (omega (arith, p.links_is, p.mods_is))) _ _ _ c.swap.ensures.2 refl in
-    let f = freed_is _ _ _ _ _ v p _ l c.args.before c.args.next own pl _ _ e (c.store-2.ensures.2 l (omega (arith, c.from-4.ensures))) in
+    let f = swept_is _ _ _ _ _ v _ p _ l c.args.before c.args.next iv c.requires.own c.requires.place _ _ _ _ _ (c.store.ensures.2 l (omega (arith, p.links_is, p.mods_is))) c.swap.ensures.2 refl (c.store-2.ensures.2 l (omega (arith, c.from-4.ensures))) in
     subst (λ (u : ReadersView). Accounted u.claims) (sym (ap (λ m. m.0) f.0)) (room_after l v f.1 (subst (λ (u : ReadersView). Accounted u.claims) (sym iv) c.requires.whole)).1

@@ -1,7 +1,5 @@
 use Rattle.std.proofs.Common.{Bool, true, false, true≢false, refl, ◌≡◌, ◌<◌, sym, ap, subst, ◌∙◌, arith}
-use Rattle.std.specs.Prelude.{sum_by, not}
-use Rattle.std.proofs.lemmas.Bool.{eqb-true}
-use Rattle.psac_readers.specs.Chained.{named, alive}
+use Rattle.psac_readers.proofs.Terms.{sum_by, not, eqb-true, named, alive}
 use Rattle.psac_readers.proofs.Acts.{loads}
 use Rattle.psac_readers.proofs.Walking.{named_low, all_whole}
 use Rattle.psac_readers.proofs.readers.Readers.goes.Goals as goal

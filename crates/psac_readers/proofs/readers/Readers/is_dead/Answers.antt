@@ -1,7 +1,5 @@
 use Rattle.std.proofs.Common.{Bool, ℕ, zero, suc, true, false, true≢false, refl, ◌≡◌, ◌<◌, sym, ap, subst, ◌∙◌, arith}
-use Rattle.std.specs.Prelude.{sum_by, not, ◌==◌}
-use Rattle.std.proofs.lemmas.Bool.{eqb-true}
-use Rattle.psac_readers.proofs.Terms.{IsSole, deads}
+use Rattle.psac_readers.proofs.Terms.{sum_by, not, ◌==◌, eqb-true, IsSole, deads}
 use Rattle.psac_readers.proofs.Acts.{loads}
 use Rattle.psac_readers.proofs.readers.Readers.is_dead.Goals as goal
 

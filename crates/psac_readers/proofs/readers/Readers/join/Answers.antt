@@ -1,6 +1,5 @@
 use Rattle.std.proofs.Common.{ℕ, ◌<◌, ◌≤◌, sym, ap, subst, ◌∙◌, arith}
-use Rattle.psac_readers.proofs.Terms.{set_else, ReadersView, named, joined, Carries}
-use Rattle.std.specs.Prelude.{sum_by}
+use Rattle.psac_readers.proofs.Terms.{sum_by, set_else, ReadersView, named, joined, Carries}
 use Rattle.psac_readers.proofs.Acts.{loads}
 use Rattle.psac_readers.proofs.Sides.{joins_at}
 use Rattle.psac_readers.proofs.Carrying.{carries_joined}

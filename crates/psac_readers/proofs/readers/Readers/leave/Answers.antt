@@ -1,6 +1,5 @@
 use Rattle.std.proofs.Common.{ℕ, ◌<◌, sym, ap, subst, ◌∙◌, arith}
-use Rattle.std.specs.Prelude.{sum_by}
-use Rattle.psac_readers.proofs.Terms.{ReadersView, alive, Carries}
+use Rattle.psac_readers.proofs.Terms.{sum_by, ReadersView, alive, Carries}
 use Rattle.psac_readers.proofs.Acts.{leaves}
 use Rattle.psac_readers.proofs.Carrying.{alive_low, carries_dead}
 use Rattle.psac_readers.proofs.readers.Readers.leave.Goals as goal

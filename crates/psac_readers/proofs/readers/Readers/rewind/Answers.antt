@@ -1,6 +1,5 @@
 use Rattle.std.proofs.Common.{ℕ, ◌≡◌, sym, ap, subst, ◌∙◌, arith, refl, ◌≤◌, ◌+◌, ◌-◌}
-use Rattle.std.specs.Prelude.{sum_by}
-use Rattle.psac_readers.proofs.Terms.{named, IsSole, Accounted, turned, rewound, Holds, ReadersView, Carries, gone_is, rest_is}
+use Rattle.psac_readers.proofs.Terms.{sum_by, named, IsSole, Accounted, turned, rewound, Holds, ReadersView, Carries, gone_is, rest_is}
 use Rattle.psac_readers.proofs.Acts.{loads, rewinds}
 use Rattle.psac_readers.proofs.Carrying.{carries_rewound}
 use Rattle.psac_readers.proofs.readers.Readers.rewind.Goals as goal

@@ -1,6 +1,5 @@
 use Rattle.std.proofs.Common.{ℕ, suc, ◌+◌, ◌*◌, ◌%◌, ◌/◌, ◌∷◌, ◌++◌, [], List, map, ◌≤◌, ◌<◌, ◌≡◌, length, sym, ap, subst, ◌∙◌, arith, mod-lt, refl, cond, ltb, zero, inl}
-use Rattle.std.proofs.lemmas.Bool.{lt-ltb}
-use Rattle.psac_values.proofs.Terms.{Step, Handle, Member, slot_times, entry, member_right, map_member, ValueView, state_at, handle_of, Seat, Drew, Loaded, Tells, Lacks, drew, new_state, marked, Carries, took}
+use Rattle.psac_values.proofs.Terms.{lt-ltb, Step, Handle, Member, slot_times, entry, member_right, map_member, ValueView, state_at, handle_of, Seat, Drew, Loaded, Tells, Lacks, drew, new_state, marked, Carries, took}
 use Rattle.psac_values.proofs.Acts.{draws, loads, marks}
 use Rattle.psac_values.proofs.Carrying.{carries_past, carries_took, found_here, drawn_once}
 use Rattle.psac_values.proofs.values.Values.claim.Goals as goal

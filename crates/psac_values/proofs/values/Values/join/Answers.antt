@@ -1,6 +1,5 @@
 use Rattle.std.proofs.Common.{ℕ, ◌≡◌, ◌<◌, ◌+◌, sym, ap, subst, ◌∙◌, arith, refl, length, Option, Some}
-use Rattle.std.specs.Prelude.{IfSome}
-use Rattle.psac_values.proofs.Terms.{Member, MetView, OwnedView, StateView, ValueView, Meeting, joined, Carries, United}
+use Rattle.psac_values.proofs.Terms.{IfSome, Member, MetView, OwnedView, StateView, ValueView, Meeting, joined, Carries, United}
 use Rattle.psac_values.proofs.Acts.{joins, settles}
 use Rattle.psac_values.proofs.Carrying.{carries_joined, unites_views}
 use Rattle.psac_values.proofs.values.Values.join.Goals as goal

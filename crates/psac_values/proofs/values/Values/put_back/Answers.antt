@@ -1,6 +1,5 @@
 use Rattle.std.proofs.Common.{◌≡◌, ◌<◌, ℕ, suc, ◌+◌, ◌-◌, ◌*◌, ◌%◌, List, length, sym, ap, subst, ◌∙◌, arith, mod-lt, cond}
-use Rattle.std.proofs.lemmas.Bool.{eq-eqb}
-use Rattle.psac_values.proofs.Terms.{Handle, Member, word_of, later, slot_times, place, Accounted, map_member, member_times, StateView, ValueView, state_at, free_word, Seat, mark, marked, gave, IsOut, claimed_as, Carries}
+use Rattle.psac_values.proofs.Terms.{eq-eqb, Handle, Member, word_of, later, slot_times, place, Accounted, map_member, member_times, StateView, ValueView, state_at, free_word, Seat, mark, marked, gave, IsOut, claimed_as, Carries}
 use Rattle.psac_values.proofs.Giving.{gave_whole}
 use Rattle.psac_values.proofs.Acts.{marks, gives}
 use Rattle.psac_values.proofs.Carrying.{state_of, has_room, gave_marked, carries_gave}
