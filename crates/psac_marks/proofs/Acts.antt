@@ -1,24 +1,9 @@
 -- What each step of one pass allows.
-use Rattle.std.proofs.Common.{◌≡◌, ◌≢◌, ℕ, ◌+◌, ◌*◌, ◌%◌, ◌^◌, ◌<◌, List, [], map, set, true, refl, sym, ap, ◌∙◌, subst, ⊎_elim, arith, Option, Some, None}
-use Rattle.std.specs.Prelude.{slice_index}
-use Rattle.std.proofs.lemmas.List.{set-get_or}
-use Rattle.std.proofs.lemmas.Bool.{cases_eq}
-use mathlib.Core.Option.{some, none as vacant}
-use lib.ListN.{get_elem?}
-use Rattle.atomic_table.specs.Table.{State, Allows, keeps, step}
-use Rattle.atomic_table.proofs.Lists.{at_map, set_again}
-use Rattle.psac_ops.specs.declared.plain.Handle.{Handle}
-use Rattle.psac_slots.specs.Handles.{Member}
+use Rattle.std.proofs.Common.{◌≡◌, ◌≢◌, ℕ, ◌+◌, ◌*◌, ◌%◌, ◌^◌, ◌<◌, List, map, set, true, refl, sym, ap, ◌∙◌, subst, ⊎_elim, arith, Option, Some, None}
+use Rattle.psac_marks.proofs.Terms.{slice_index, set-get_or, cases_eq, some, none as vacant, get_elem?, State, Allows, keeps, step, at_map, set_again, Handle, Member, times, sum_at, StateView, MarksView, mark_at, parent_at, state_at, parent_word, Place, places, claims_of, tree_of, Raising, marks_of, states_of, Has, HasOwn, marks, Marked, drew, Drew, Lacks, Tells, Loaded, Settled, hung, Hung, stated, Stated, raised, Raised, cleared, Cleared, asked, Asked, detached, Detached, MayRaise, entry_at, later_member}
 use Rattle.psac_slots.specs.Claiming as claiming
-use Rattle.psac_slots.specs.Claiming.{times}
 use Rattle.psac_slots.proofs.Acts as slots
-use Rattle.psac_slots.proofs.Sums.{sum_at}
-use Rattle.psac_marks.specs.declared.view.StateView.{StateView}
-use Rattle.psac_marks.specs.declared.view.MarksView.{MarksView}
-use Rattle.psac_marks.specs.Marked.{mark_at, parent_at, state_at, parent_word, Place, places, claims_of, tree_of, Raising, marks_of, states_of, Has, HasOwn, marks, Marked}
-use Rattle.psac_marks.specs.Steps.{drew, Drew, Lacks, Tells, Loaded, Settled, hung, Hung, stated, Stated, raised, Raised, cleared, Cleared, asked, Asked, detached, Detached}
-use Rattle.psac_marks.specs.Passes.{MayRaise}
-use Rattle.psac_marks.proofs.Keeps.{entry_at, later_member, undrawn, held_low, place_low, lacks, unmarked, undropped, drops_own, shared_kept, one_parent, count_is, own_alone, own_mark, draws_at, raises_first, raises_second, clears_at, counts_at, detaches_at, states_at, hangs_at}
+use Rattle.psac_marks.proofs.Keeps.{undrawn, held_low, place_low, lacks, unmarked, undropped, drops_own, shared_kept, one_parent, count_is, own_alone, own_mark, draws_at, raises_first, raises_second, clears_at, counts_at, detaches_at, states_at, hangs_at}
 use Rattle.psac_marks.proofs.Holding.{holds_at}
 use Rattle.psac_marks.proofs.Families.{closed_at}
 use Rattle.psac_marks.proofs.Alone.{all_held, free_state}
@@ -61,7 +46,7 @@ module _ (nodes slots_ id : ℕ) (v : MarksView) (hs : List (ℕ × Unit {0})) (
   tells : (i : ℕ) (s : State (Unit {0}) MarksView) → Marked nodes s.words s.views → get_elem? s.views id ≡ some v → slice_index s.words i < 18446744073709551616 → Tells v i (slice_index s.words i)
   tells i s h at fits =
       let mine = at_map claims_of s.views id v at in
-      let old = (slots.loads nodes 0 id i v.claims [] live (record { words = s.words; homes = []; views = map claims_of s.views }) (h.counter, h.head, h.list, h.claims) refl mine fits).4 in
+      let old = slots.tells nodes h.counter h.head h.list s.words (map claims_of s.views) h.claims id v.claims mine live i in
       let g = h.claims.each id v.claims mine in
       let c = g.count_is live in
       let word : (k x : ℕ) → i ≡ k → get_elem? s.words k ≡ some x → slice_index s.words i ≡ x = λ k x is e. slots.slice_at s.words i x (ap (get_elem? s.words) is ∙ e) in
@@ -110,8 +95,7 @@ module _ (nodes slots_ id : ℕ) (v : MarksView) (hs : List (ℕ × Unit {0})) (
   pub hangs : (x : ℕ) (par : Option ℕ) (i n : ℕ) → HasOwn v.own x → ((p : ℕ) → par ≡ Some p → Has (places v) p × (times x v.marked ≡ 0)) → i ≡ parent_at v.claims.count x → n ≡ parent_word par
       → Allows (λ (s : State (Unit {0}) MarksView). Marked nodes s.words s.views) slots_ id (v, hs) i (λ _. n) (λ _. Hung (step slots_ i n 0 vacant) (v, hs) n)
   hangs x par i n own may is new s h sized at fits =
-      let c = count_is nodes s.words s.views h id v at live in
-      let z : i ≡ parent_at nodes x = is ∙ ap (λ k. parent_at k x) c in (
+      let z : i ≡ parent_at nodes x = is ∙ ap (λ k. parent_at k x) (count_is nodes s.words s.views h id v at live) in (
         hung x par v,
         keeps,
         tt,
@@ -122,8 +106,7 @@ module _ (nodes slots_ id : ℕ) (v : MarksView) (hs : List (ℕ × Unit {0})) (
   pub states : (t : StateView) (i n : ℕ) → Member t v.states → i ≡ state_at v.claims.count t.of.slot
       → Allows (λ (s : State (Unit {0}) MarksView). Marked nodes s.words s.views) slots_ id (v, hs) i (λ _. n) (λ _. Stated (step slots_ i n 0 vacant) (v, hs) n)
   states t i n has is s h sized at fits =
-      let c = count_is nodes s.words s.views h id v at live in
-      let z : i ≡ state_at nodes t.of.slot = is ∙ ap (λ k. state_at k t.of.slot) c in (
+      let z : i ≡ state_at nodes t.of.slot = is ∙ ap (λ k. state_at k t.of.slot) (count_is nodes s.words s.views h id v at live) in (
         stated t.of.slot n v,
         keeps,
         tt,
@@ -135,12 +118,10 @@ module _ (nodes slots_ id : ℕ) (v : MarksView) (hs : List (ℕ × Unit {0})) (
       → Allows (λ (s : State (Unit {0}) MarksView). Marked nodes s.words s.views) slots_ id (v, hs) i (λ _. 1) (Raised (step slots_ i 1 0 vacant) (v, hs))
   raises e0 i has may is s h sized at fits =
       let x = e0.node.slot in
-      let c = count_is nodes s.words s.views h id v at live in
-      let z : i ≡ mark_at nodes x = is ∙ ap (λ k. mark_at k x) c in
+      let z : i ≡ mark_at nodes x = is ∙ ap (λ k. mark_at k x) (count_is nodes s.words s.views h id v at live) in
       let n = slice_index s.words i in
       let all = map marks_of s.views in
       let e : n ≡ marks x all = slots.slice_at s.words i (marks x all) (ap (get_elem? s.words) z ∙ h.climbs.stored x (place_low nodes s.words s.views h id v e0 at has)) in
-      let one = h.climbs.once x in
       let rule : (k : ℕ) → n ≡ k → Marked nodes (set s.words (mark_at nodes x) 1) (set s.views id (raised x e0.parent k v)) → Marked nodes (set s.words i 1) (set s.views id (raised x e0.parent n v)) = λ k q r.
       subst (λ (p : ℕ × ℕ). Marked nodes (set s.words p.0 1) (set s.views id (raised x e0.parent p.1 v))) (λ j. (sym z j, sym q j)) r in (
         raised x e0.parent n v,
@@ -148,7 +129,7 @@ module _ (nodes slots_ id : ℕ) (v : MarksView) (hs : List (ℕ × Unit {0})) (
         tt,
         ⊎_elim
             (λ (q : n ≡ 0). rule 0 q (raises_first nodes s.words s.views h id v at e0 has may (sym e ∙ q)))
-            (λ (q : n ≢ 0). let o : n ≡ 1 = omega (arith, e, one, q) in rule 1 o (raises_second nodes s.words s.views h id v at e0 has may (sym e ∙ o)))
+            (λ (q : n ≢ 0). let o : n ≡ 1 = omega (arith, e, h.climbs.once x, q) in rule 1 o (raises_second nodes s.words s.views h id v at e0 has may (sym e ∙ o)))
             (cases_eq n 0),
         record {
           becomes = λ d m at_d. let same : x ≡ d.node.slot = omega (arith, at_d, is) in let par = one_parent nodes s.words s.views h id id v v e0 d at at has m same in λ j. (raised (same j) (par j) n v, hs);

@@ -1,19 +1,7 @@
 -- What a sole pass knows of the table.
 use Rattle.std.proofs.Common.{◌≡◌, ◌≢◌, ℕ, zero, suc, ◌*◌, ◌<◌, ◌≤◌, List, [], ◌∷◌, map, length, drop, true, false, true≢false, refl, sym, ap, ◌∙◌, subst, inl, ⊎_elim, arith}
-use Rattle.std.proofs.lemmas.Bool.{lt-ltb, cases_eq}
-use mathlib.Core.Option.{some, some-injective}
-use lib.ListN.{get_elem?}
-use Rattle.atomic_table.proofs.Lists.{at_map}
-use Rattle.psac_ops.specs.declared.plain.Handle.{Handle}
-use Rattle.psac_slots.specs.Handles.{Member, slot_times, once_below}
-use Rattle.psac_slots.specs.declared.view.ClaimView.{ClaimView}
+use Rattle.psac_marks.proofs.Terms.{lt-ltb, cases_eq, some, some-injective, get_elem?, at_map, Handle, Member, slot_times, once_below, ClaimView, bit, found, OwnView, SharedView, MarksView, state_at, Place, own_place, shared_place, places, claims_of, rights_of, tree_of, held_times, Marked}
 use Rattle.psac_slots.proofs.Rewinds as turns
-use Rattle.psac_slots.proofs.Sums.{bit}
-use Rattle.psac_slots.proofs.Removed.{found}
-use Rattle.psac_marks.specs.declared.view.OwnView.{OwnView}
-use Rattle.psac_marks.specs.declared.view.SharedView.{SharedView}
-use Rattle.psac_marks.specs.declared.view.MarksView.{MarksView}
-use Rattle.psac_marks.specs.Marked.{state_at, free_word, Place, own_place, shared_place, places, claims_of, rights_of, tree_of, held_times, Marked}
 use Rattle.psac_marks.proofs.Parts.{place_cases}
 use Rattle.psac_marks.proofs.Keeps.{at_mapped, held_is}
 
@@ -55,8 +43,7 @@ module _ (nodes : ℕ) (words : List ℕ) (views : List MarksView) (h : Marked n
     pub all_held : (x : ℕ) → held_times x (map tree_of views) ≡ slot_times x v.claims.held
     all_held x =
         let a = turns.alone_sum nodes h.counter h.head h.list words (map claims_of views) h.claims id v.claims (at_map claims_of views id v at) live empty (λ (u : ClaimView). slot_times x u.held) refl (λ u _ d. ap (slot_times x) d) in
-        let e = held_is nodes words views h x in
-        omega (arith, a, e)
+        omega (arith, a, held_is nodes words views h x)
 
     -- a sole pass holds what it has
     pub holds_own : (e : Place) → Member e (places v) → Member e.node v.claims.held
@@ -71,10 +58,7 @@ module _ (nodes : ℕ) (words : List ℕ) (views : List MarksView) (h : Marked n
     -- the state of a slot that a sole pass doesn't hold says that it is free
     pub free_state : (x : ℕ) → x < nodes → slot_times x v.claims.held ≡ 0 → (g : ℕ) × (get_elem? words (state_at nodes x) ≡ some (2 * g))
     free_state x low none =
-        let s = h.claims.slots x in
-        let e = held_is nodes words views h x in
-        let a = all_held x in
         let one : once_below x nodes ≡ 1 = ap bit (lt-ltb x nodes low) in
-        let f = found x (drop h.counter h.list) (omega (arith, s, e, a, none, one)) in
+        let f = found x (drop h.counter h.list) (omega (arith, h.claims.slots x, held_is nodes words views h x, all_held x, none, one)) in
         let k = dropped_at h.list h.counter f.0 f.1 in
         (f.0.generation, ap (λ y. get_elem? words (state_at nodes y)) (sym f.2) ∙ h.states.free k.0 f.0 k.1 k.2)

@@ -1,21 +1,6 @@
 -- What a caller needs of claims, raises, forks and joins.
 use Rattle.std.proofs.Common.{◌≡◌, ℕ, List, [], ◌∷◌, ◌++◌, map, length, Bool, true, false, refl, sym, ap, ◌∙◌, subst, inl, inr, ⊎_elim, arith, Option, Some, None}
-use Rattle.std.specs.Prelude.{◌==◌, cond, filter, not}
-use Rattle.std.proofs.lemmas.List.Sums.{sum_by-append}
-use Rattle.std.proofs.lemmas.Bool.{le-ltb}
-use Rattle.psac_ops.specs.declared.plain.Handle.{Handle}
-use Rattle.psac_slots.specs.Branches.{stem}
-use Rattle.psac_slots.specs.Handles.{Member}
-use Rattle.psac_slots.specs.Divided.{comes_back as returns, lends}
-use Rattle.psac_slots.specs.Claiming.{times}
-use Rattle.psac_slots.proofs.Turns.{stem_push}
-use Rattle.psac_slots.proofs.Pairs.{member_left, member_right, map_member, filter_member}
-use Rattle.psac_marks.specs.declared.view.OwnView.{OwnView}
-use Rattle.psac_marks.specs.declared.view.SharedView.{SharedView}
-use Rattle.psac_marks.specs.declared.view.MarksView.{MarksView}
-use Rattle.psac_marks.specs.Marked.{Place, own_place, shared_place, places, ways}
-use Rattle.psac_marks.specs.Steps.{now_shared, joined}
-use Rattle.psac_marks.specs.Passes.{Owns, Keeps, IsKept, IsBusy, Leads, Claims, took, climbed, one_of}
+use Rattle.psac_marks.proofs.Terms.{◌==◌, cond, filter, not, sum_by-append, le-ltb, Handle, stem, Member, comes_back as returns, lends, times, stem_push, member_left, member_right, map_member, filter_member, OwnView, SharedView, MarksView, Place, own_place, shared_place, places, ways, now_shared, joined, Owns, Keeps, IsKept, IsBusy, Leads, Claims, took, climbed, one_of}
 use Rattle.psac_marks.proofs.Parts.{place_own, place_shared, place_cases}
 
 -- a path stays where nodes and marks only come, and none is dropped

@@ -1,23 +1,7 @@
 -- What a pass of marks carries after each step.
 use Rattle.std.proofs.Common.{◌≡◌, ◌≢◌, ℕ, suc, ◌+◌, ◌/◌, ◌%◌, ◌<◌, ◌≤◌, List, [], ◌∷◌, ◌++◌, map, length, cond, refl, sym, ap, ◌∙◌, subst, inl, inr, ⊎_elim, arith, Option, Some, None}
-use Rattle.std.specs.Prelude.{◌==◌, IfSome}
-use Rattle.std.proofs.lemmas.List.{map-append}
-use Rattle.std.proofs.lemmas.List.Sums.{sum_by_push}
-use Rattle.std.proofs.lemmas.Bool.{eq-eqb, ne_eqb}
-use Rattle.psac_ops.specs.declared.plain.Handle.{Handle}
-use Rattle.psac_slots.specs.Handles.{Member, slot_times, IsDistinct}
+use Rattle.psac_marks.proofs.Terms.{◌==◌, IfSome, map-append, sum_by_push, eq-eqb, ne_eqb, Handle, Member, slot_times, IsDistinct, bit, member_right, member_cases, map_member, member_times, claimed_entry, OwnView, SharedView, StateView, MarksView, Place, own_place, shared_place, places, Has, handle_of, out_word, free_word, Tells, new_own, new_state, drew, Lacks, hang, hung, put, stated, cleared, asked, detached, Carries, Keeps, slot_of, climbed, took}
 use Rattle.psac_slots.specs.Claiming as claiming
-use Rattle.psac_slots.specs.Claiming.{times}
-use Rattle.psac_slots.proofs.Sums.{bit}
-use Rattle.psac_slots.proofs.Pairs.{member_right, member_cases, map_member}
-use Rattle.psac_slots.proofs.Removed.{member_times, claimed_entry}
-use Rattle.psac_marks.specs.declared.view.OwnView.{OwnView}
-use Rattle.psac_marks.specs.declared.view.SharedView.{SharedView}
-use Rattle.psac_marks.specs.declared.view.StateView.{StateView}
-use Rattle.psac_marks.specs.declared.view.MarksView.{MarksView}
-use Rattle.psac_marks.specs.Marked.{Place, own_place, shared_place, places, Has, handle_of, out_word, free_word}
-use Rattle.psac_marks.specs.Steps.{Tells, new_own, new_state, drew, Lacks, hang, hung, put, stated, cleared, asked, detached}
-use Rattle.psac_marks.specs.Passes.{Carries, Keeps, slot_of, climbed, took}
 use Rattle.psac_marks.proofs.Parts.{place_own, place_shared, place_cases}
 use Rattle.psac_marks.proofs.Stays.{back_again}
 
@@ -101,8 +85,7 @@ took_is v n h par e lacks held once =
     let one : bit (h.slot == h.slot) ≡ 1 = ap bit (eq-eqb h.slot h.slot refl) in
     let s = ap (λ k. slot_times k (map handle_of v.states)) is in
     let all : map handle_of v.states ++ h ∷ [] ≡ (drew v n).claims.held = (λ j. map handle_of v.states ++ map handle_of (map new_state (sym e j))) ∙ (sym (map-append handle_of v.states (map new_state (claiming.entry v.claims.list n))) ∙ held) in
-    let d = subst (λ hs. slot_times h.slot hs ≤ 1) (sym all) (once h.slot) in
-    omega (arith, a, b, one, s, d) in
+    omega (arith, a, b, one, s, subst (λ hs. slot_times h.slot hs ≤ 1) (sym all) (once h.slot)) in
     let states : map (put h.slot (out_word h)) (drew v n).states ≡ v.states ++ record { of = h; word = out_word h } ∷ [] =
     ap (λ l. map (put h.slot (out_word h)) (v.states ++ map new_state l)) e
     ∙ (map-append (put h.slot (out_word h)) v.states (new_state h ∷ [])

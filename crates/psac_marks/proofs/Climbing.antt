@@ -1,16 +1,7 @@
 -- A climb, node by node.
 use Rattle.std.proofs.Common.{◌≡◌, ◌≢◌, ◌⊎◌, ℕ, zero, suc, ◌-◌, ◌<◌, ◌≤◌, List, [], ◌∷◌, ◌++◌, length, refl, sym, ap, ◌∙◌, subst, inl, inr, ⊎_elim, arith, Option, Some, None, cond, append_assoc, append-nil, length-append}
-use Rattle.psac_slots.specs.Handles.{Member}
-use Rattle.psac_slots.specs.Claiming.{times}
-use Rattle.psac_marks.specs.declared.view.MarksView.{MarksView}
-use Rattle.psac_marks.specs.Marked.{parent_word, Place, places}
-use Rattle.psac_marks.specs.Steps.{raised, climbs_from}
-use Rattle.psac_marks.specs.Passes.{IsBusy, IsKept, Leads, Rises, RaisedOne, MayRaise, climbed, one_of}
+use Rattle.psac_marks.proofs.Terms.{eq-eqb, ne_eqb, cases_eq, ◌==◌, sum_by, sum_by-append, sum_by-cons, Member, times, MarksView, parent_word, Place, places, raised, climbs_from, IsBusy, IsKept, Leads, Rises, RaisedOne, MayRaise, climbed, one_of, bit}
 use Rattle.psac_marks.proofs.Parts.{times_push, bit_same}
-use Rattle.psac_slots.proofs.Sums.{bit}
-use Rattle.std.proofs.lemmas.Bool.{eq-eqb, ne_eqb, cases_eq}
-use Rattle.std.specs.Prelude.{◌==◌, sum_by}
-use Rattle.std.proofs.lemmas.List.Sums.{sum_by-append, sum_by-cons}
 
 -- how many places are of nodes whose mark the pass doesn't have
 abbrev pub unmarked : List ℕ → List Place → ℕ
@@ -73,9 +64,7 @@ unmarked_few ms x (p ∷ ps) =
     let a = sum_by-cons (λ (e : Place). cond (times e.node.slot (ms ++ x ∷ []) == 0) 1 0) p ps in
     let b = sum_by-cons (λ (e : Place). cond (times e.node.slot ms == 0) 1 0) p ps in
     let t = times_push p.node.slot ms x in
-    let c = still_one (times p.node.slot ms) (times p.node.slot (ms ++ x ∷ [])) (omega (arith, t)) in
-    let r = unmarked_few ms x ps in
-    omega (arith, a, b, c, r)
+    omega (arith, a, b, still_one (times p.node.slot ms) (times p.node.slot (ms ++ x ∷ [])) (omega (arith, t)), unmarked_few ms x ps)
 
 -- one more mark
 unmarked_less : (e : Place) (ms : List ℕ) (ps : List Place) → Member e ps → times e.node.slot ms ≡ 0 → unmarked (ms ++ e.node.slot ∷ []) ps < unmarked ms ps
@@ -90,13 +79,10 @@ unmarked_less e ms (p ∷ ps) m z =
     let one : bit (x == p.node.slot) ≡ 1 = ap bit (eq-eqb x p.node.slot (sym slot)) in
     let old : cond (times p.node.slot ms == 0) 1 0 ≡ 1 = ap bit (eq-eqb (times p.node.slot ms) 0 (ap (λ k. times k ms) slot ∙ z)) in
     let new : cond (times p.node.slot (ms ++ x ∷ []) == 0) 1 0 ≡ 0 = ap bit (ne_eqb (times p.node.slot (ms ++ x ∷ [])) 0 (λ k. absurd (omega (arith, k, t, one)))) in
-    let r = unmarked_few ms x ps in
-    omega (arith, a, b, old, new, r))
+    omega (arith, a, b, old, new, unmarked_few ms x ps))
     (λ q.
     let t = times_push p.node.slot ms x in
-    let c = still_one (times p.node.slot ms) (times p.node.slot (ms ++ x ∷ [])) (omega (arith, t)) in
-    let r = unmarked_less e ms ps q z in
-    omega (arith, a, b, c, r))
+    omega (arith, a, b, still_one (times p.node.slot ms) (times p.node.slot (ms ++ x ∷ [])) (omega (arith, t)), unmarked_less e ms ps q z))
     m
 
 -- a climb begins

@@ -1,15 +1,6 @@
 -- What steps make of the marks.
 use Rattle.std.proofs.Common.{◌≡◌, ◌≢◌, ℕ, ◌+◌, ◌*◌, ◌<◌, List, [], ◌∷◌, ◌++◌, length, set, refl, sym, ap, ◌∙◌, subst, inl, inr, ⊎_elim, arith, Option, Some, None}
-use Rattle.std.specs.Prelude.{◌==◌, filter}
-use Rattle.std.proofs.lemmas.Bool.{cases_eq}
-use mathlib.Core.Option.{some, some-injective}
-use lib.ListN.{get_elem?}
-use Rattle.atomic_table.proofs.Lists.{set_here, set_else}
-use Rattle.psac_slots.specs.Handles.{Member}
-use Rattle.psac_slots.specs.Claiming.{times}
-use Rattle.psac_slots.proofs.Sums.{bit, sum_set, sum_at, sum_two, all_set}
-use Rattle.psac_marks.specs.Marked.{mark_at, Place, Raising, Has, marks, Supported, Climbing}
-use Rattle.psac_marks.specs.Steps.{climbs_from, other}
+use Rattle.psac_marks.proofs.Terms.{◌==◌, filter, cases_eq, some, some-injective, get_elem?, set_here, set_else, Member, times, bit, sum_set, all_set, mark_at, Place, Raising, Has, marks, Supported, Climbing, climbs_from, other}
 use Rattle.psac_marks.proofs.Parts.{here, times_push, times_gone, times_else, bit_same, bit_other}
 
 -- a store beside the marks

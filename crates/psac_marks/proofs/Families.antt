@@ -1,19 +1,6 @@
 -- The children of an own node are the same pass's own.
 use Rattle.std.proofs.Common.{◌≡◌, ◌≢◌, ℕ, ◌<◌, List, map, length, true, true≢false, sym, ap, ◌∙◌, subst, refl, ⊎_elim, arith, Option, Some, None}
-use Rattle.std.proofs.lemmas.Bool.{cases_eq}
-use mathlib.Core.Option.{some, some-injective}
-use lib.ListN.{get_elem?}
-use Rattle.atomic_table.proofs.Lists.{at_map}
-use Rattle.psac_slots.specs.Branches.{is_prefix}
-use Rattle.psac_slots.specs.Handles.{Member}
-use Rattle.psac_slots.specs.Claiming.{times}
-use Rattle.psac_slots.proofs.Dividing.{prefix_short_length, prefix_through}
-use Rattle.psac_marks.specs.declared.view.OwnView.{OwnView}
-use Rattle.psac_marks.specs.declared.view.SharedView.{SharedView}
-use Rattle.psac_marks.specs.declared.view.MarksView.{MarksView}
-use Rattle.psac_marks.specs.Marked.{Place, own_place, shared_place, places, claims_of, rights_of, tree_of, HasOwn, Raising, Marked, marks, marks_of}
-use Rattle.psac_marks.specs.Steps.{IsClosed}
-use Rattle.psac_marks.specs.Passes.{Bare}
+use Rattle.psac_marks.proofs.Terms.{cases_eq, some, some-injective, get_elem?, at_map, is_prefix, Member, times, prefix_short_length, prefix_through, OwnView, SharedView, MarksView, Place, own_place, shared_place, places, claims_of, rights_of, tree_of, HasOwn, Raising, Marked, marks, marks_of, IsClosed, Bare}
 use Rattle.psac_marks.proofs.Parts.{place_own, place_cases}
 use Rattle.psac_marks.proofs.Keeps.{at_mapped, own_alone, own_mark}
 

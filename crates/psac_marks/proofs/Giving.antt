@@ -1,29 +1,8 @@
 -- A sole pass gives a node back.
-use Rattle.std.proofs.Common.{◌≡◌, ◌≢◌, ℕ, suc, ◌+◌, ◌<◌, ◌≤◌, List, [], ◌∷◌, ◌++◌, map, length, set, Bool, true, false, cond, refl, sym, ap, ◌∙◌, subst, inl, ⊎_elim, arith, Option, Some, None, length-set, mod-lt}
-use Rattle.std.specs.Prelude.{filter, not, ◌==◌, All}
-use Rattle.std.proofs.lemmas.Bool.{eq-eqb, ne_eqb, cases_eq}
-use mathlib.Core.Option.{some, some-injective, none as vacant}
-use lib.ListN.{get_elem?}
-use Rattle.atomic_table.specs.Table.{State, Allows, keeps, step}
-use Rattle.atomic_table.proofs.Lists.{at_map, at_set, set_else}
-use Rattle.psac_ops.specs.declared.plain.Handle.{Handle}
-use Rattle.psac_slots.specs.Handles.{Member, word_of, IsHandle, later, slot_times, removed}
+use Rattle.std.proofs.Common.{◌≡◌, ◌≢◌, ℕ, ◌+◌, ◌<◌, ◌≤◌, List, [], ◌∷◌, ◌++◌, map, length, set, true, refl, sym, ap, ◌∙◌, subst, inl, ⊎_elim, arith, Option, Some, None, length-set, mod-lt}
+use Rattle.psac_marks.proofs.Terms.{filter, not, ◌==◌, eq-eqb, ne_eqb, cases_eq, some, some-injective, none as vacant, get_elem?, State, Allows, keeps, step, at_map, at_set, set_else, Handle, Member, word_of, later, slot_times, removed, times, Divided, sole_parts, one_given, filtered, sum_set, all_set, at_new, member_filter, filter_member, member_times, removed_gone, removed_else, off, changes, OwnView, SharedView, StateView, MarksView, state_at, free_word, Place, own_place, shared_place, places, claims_of, handle_of, ways, rights_of, Grown, tree_of, Raising, marks_of, Stating, states_of, Has, HasOwn, held_times, Tree, marks, Supported, Climbing, IsStated, AreStated, Marked, other, other_own, other_state, gave, Gave, Childless}
 use Rattle.psac_slots.specs.Claiming as claiming
-use Rattle.psac_slots.specs.Claiming.{times}
-use Rattle.psac_slots.specs.Divided.{Divided}
-use Rattle.psac_slots.proofs.Acts.{sole_parts}
 use Rattle.psac_slots.proofs.Rewinds as turns
-use Rattle.psac_slots.proofs.Sums.{sum_set, all_set, at_new}
-use Rattle.psac_slots.proofs.Pairs.{member_filter, filter_member}
-use Rattle.psac_slots.proofs.Removed.{member_times, removed_gone, removed_else, one_word}
-use Rattle.psac_slots.proofs.Dividing.{off, changes}
-use Rattle.psac_marks.specs.declared.view.OwnView.{OwnView}
-use Rattle.psac_marks.specs.declared.view.SharedView.{SharedView}
-use Rattle.psac_marks.specs.declared.view.StateView.{StateView}
-use Rattle.psac_marks.specs.declared.view.MarksView.{MarksView}
-use Rattle.psac_marks.specs.Marked.{state_at, free_word, Place, own_place, shared_place, places, claims_of, handle_of, ways, rights_of, Grown, tree_of, Raising, marks_of, Stating, states_of, Has, HasOwn, held_times, Tree, marks, Supported, Climbing, IsStated, AreStated, Marked}
-use Rattle.psac_marks.specs.Steps.{other, other_own, other_state, gave, Gave}
-use Rattle.psac_marks.specs.Passes.{Childless}
 use Rattle.psac_marks.proofs.Parts.{new_part, here, times_gone, times_else, place_own, place_cases}
 use Rattle.psac_marks.proofs.Trees.{tree_else}
 use Rattle.psac_marks.proofs.Climbs.{climbs_else, support_stays}
@@ -31,16 +10,6 @@ use Rattle.psac_marks.proofs.Stays.{states_else}
 use Rattle.psac_marks.proofs.Keeps.{met_after, held_low, at_mapped}
 use Rattle.psac_marks.proofs.Alone.{nobody_else, nothing_shared, all_held}
 use Rattle.psac_marks.proofs.Holding.{held_once}
-
-filtered_one : (s : ℕ) (t : StateView) (ts : List StateView) → map handle_of (filter (other_state s) ts) ≡ removed s (map handle_of ts) → (b : Bool) → (t.of.slot == s) ≡ b
-    → map handle_of (cond (not b) (t ∷ filter (other_state s) ts) (filter (other_state s) ts)) ≡ cond (not b) (t.of ∷ removed s (map handle_of ts)) (removed s (map handle_of ts))
-filtered_one s t ts r true e = r
-filtered_one s t ts r false e = ap (λ l. t.of ∷ l) r
-
--- the states of the other slots
-pub filtered : (s : ℕ) (ts : List StateView) → map handle_of (filter (other_state s) ts) ≡ removed s (map handle_of ts)
-filtered s [] = refl
-filtered s (t ∷ ts) = filtered_one s t ts (filtered s ts) (t.of.slot == s) refl
 
 -- what the filter keeps has another slot, and what has another slot it keeps
 pub other_slot : (x y : ℕ) → not (y == x) ≡ true → y ≢ x
@@ -100,21 +69,18 @@ module _ (x : ℕ) (gs ps : List Place) (id : ℕ) (cases : (e : Place) → Memb
               (λ z q. ⊎_elim
               (λ (e : z ≡ x). let a = ap (λ k. times k (filter (other x) ds)) e in let b = times_gone x ds in absurd (omega (arith, a, b, q)))
               (λ (n : z ≢ x).
-              let a = times_else z x ds n in
-              let o = h.dropped id g z at (omega (arith, a, q)) in
+              let o = h.dropped id g z at (omega (arith, times_else z x ds n, q)) in
               (o.0, filter_member (other_own x) o.0 os o.1 (not_slot x o.0.node.slot (λ s. n (sym o.2 ∙ s))), o.2))
               (cases_eq z x))
               (λ i k n e z q. h.dropped i k z e q) j u d y p;
           above = λ j u e p d m keep is.
               let q = was j u e d m in
               let k = kept u e q.1 q.3 keep in
-              let a = h.above id g e p at q.2 k is in
               let n : p ≢ x = λ s. let c = children e q.2 (is ∙ ap Some s) in absurd (omega (arith, c, k)) in
-              let b = same p n in omega (arith, a, b);
+              let b = same p n in omega (arith, h.above id g e p at q.2 k is, b);
           nested = λ i j u k e o di dj me mo keep is.
               let q = was i u e di me in
-              let r = was j k o dj mo in
-              h.nested id id g g e o at at q.2 r.2 (kept u e q.1 q.3 keep) is;
+              h.nested id id g g e o at at q.2 (was j k o dj mo).2 (kept u e q.1 q.3 keep) is;
         }
 
   module _ (nodes : ℕ) (words : List ℕ) (all : List Raising) (h : Climbing nodes words all) (ds ms bs : List ℕ) where
@@ -158,7 +124,7 @@ states_gives nodes counter list words all h id s at g t mt of word =
     record {
       known = λ j k y d m. all_set (λ _ (z : Stating). (w : StateView) → Member w z.states → IsStated nodes words w) all id u
           (λ w q. h.known id s w at (member_filter (other_state g.slot) w s.states q).0) (λ i z n e w q. h.known i z w e q) j k d y m;
-      held_is = all_set (λ _ (z : Stating). map handle_of z.states ≡ z.held) all id u (filtered g.slot s.states ∙ ap (removed g.slot) (h.held_is id s at)) (λ i z n e. h.held_is i z e);
+      held_is = all_set (λ _ (z : Stating). map handle_of z.states ≡ z.held) all id u (filtered handle_of g.slot s.states ∙ ap (removed g.slot) (h.held_is id s at)) (λ i z n e. h.held_is i z e);
       free = λ k y le e. ⊎_elim
           (λ (p : (k < length list) × (get_elem? list k ≡ some y)). h.free k y le p.1)
           (λ (p : (k ≡ length list) × (g ≡ y)). subst (λ (z : Handle). get_elem? words (state_at nodes z.slot) ≡ some (free_word z)) p.1
@@ -193,8 +159,7 @@ module _ (nodes : ℕ) (words : List ℕ) (views : List MarksView) (h : Marked n
       let held = member_times g v.claims.held has in
       let mine = all_held nodes words views h id v at live empty x in
       let low = held_low nodes words views h x (omega (arith, held, mine)) in
-      let m = mod-lt (h.head + length h.list) {m = nodes} (omega (arith, low)) in
-      let short : i ≤ nodes = omega (arith, m) in
+      let short : i ≤ nodes = omega (arith, mod-lt (h.head + length h.list) {m = nodes} (omega (arith, low))) in
       let once = held_once nodes words views h id v at x in
       let at_tree = at_map tree_of views id v at in
       let at_marks = at_map marks_of views id v at in
@@ -242,10 +207,6 @@ module _ (nodes : ℕ) (words : List ℕ) (views : List MarksView) (h : Marked n
         met = met_after nodes words views h id v at w (h.met id v at);
       }
 
-last_all : (l : List Handle) (x : Handle) → All IsHandle (l ++ x ∷ []) → IsHandle x
-last_all [] x a = a 0 x (omega arith)
-last_all (y ∷ l) x a = last_all l x (λ j d b. a (suc j) d (omega arith))
-
 pub gives : (nodes slots id i n : ℕ) (v : MarksView) (hs : List (ℕ × Unit {0})) (g : Handle) → v.claims.counter ≡ Some 0 → Member g v.claims.held → g.generation < 4294967295 → MayGo v g
     → i ≡ claiming.place v.claims.count (v.claims.head + length v.claims.list) → n ≡ word_of (later g)
     → Allows (λ (s : State (Unit {0}) MarksView). Marked nodes s.words s.views) slots id (v, hs) i (λ _. n) (λ _. Gave (step slots i n 0 vacant) (v, hs) n)
@@ -260,8 +221,7 @@ gives nodes slots id i n v hs g knows has next go spot is s h sized at fits =
       tt,
       subst (λ (z : ℕ × ℕ). Marked nodes (set s.words z.0 z.1) (set s.views id (gave g v))) (λ j. (there j, sym is j)) done,
       λ k had below e.
-          let fit = λ (y : Handle) (my : Member y v.claims.held) (ny : y.generation < 4294967295). last_all h.list (later y) (turns.gives_at nodes h.counter h.head h.list s.words (map claims_of s.views) h.claims id v.claims mine p.1 p.2 (sym p.0) y my ny).sized in
-          let same = one_word (later g) (later k) (fit g has next) (fit k had below) (sym is ∙ e) in
+          let same = one_given nodes h.counter h.head h.list s.words (map claims_of s.views) h.claims id v.claims mine p.1 p.2 (sym p.0) g k has had next below (sym is ∙ e) in
           λ j. (
             record v {
               claims = record v.claims { list = v.claims.list ++ same j ∷ []; held = removed (same j).slot v.claims.held };

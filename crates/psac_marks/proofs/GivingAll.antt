@@ -1,21 +1,6 @@
 -- All nodes are given back, one after another.
 use Rattle.std.proofs.Common.{◌≡◌, ◌≢◌, ℕ, suc, ◌<◌, ◌≤◌, List, [], ◌∷◌, ◌++◌, map, Bool, true, false, ltb, sym, ap, ◌∙◌, subst, ⊎_elim, arith, append_assoc, append-nil}
-use Rattle.std.specs.Prelude.{filter, not, ◌==◌}
-use Rattle.std.proofs.lemmas.List.{map-append}
-use Rattle.std.proofs.lemmas.Bool.{ne_eqb, lt-ltb, le-ltb, cases_lt}
-use Rattle.psac_ops.specs.declared.plain.Handle.{Handle}
-use Rattle.psac_slots.specs.Handles.{Member, later, slot_times, removed}
-use Rattle.psac_slots.specs.Given.{only, by_slot}
-use Rattle.psac_slots.specs.Claiming.{times}
-use Rattle.psac_slots.proofs.Pairs.{map_member, member_filter, filter_member}
-use Rattle.psac_slots.proofs.Removed.{member_times, found}
-use Rattle.psac_slots.proofs.Given.{filter_twice, filter_all, filter_none, from_next, from_here, only_one, only_none, removed_none}
-use Rattle.psac_marks.specs.declared.view.OwnView.{OwnView}
-use Rattle.psac_marks.specs.declared.view.StateView.{StateView}
-use Rattle.psac_marks.specs.declared.view.MarksView.{MarksView}
-use Rattle.psac_marks.specs.Marked.{handle_of, HasOwn}
-use Rattle.psac_marks.specs.Steps.{Holds, other, other_own, other_state, dropping, released, gave_all}
-use Rattle.psac_marks.specs.Passes.{Carries, Childless}
+use Rattle.psac_marks.proofs.Terms.{filter, not, ◌==◌, map-append, ne_eqb, lt-ltb, le-ltb, cases_lt, Handle, Member, later, slot_times, removed, only, by_slot, times, map_member, member_filter, filter_member, member_times, found, filter_twice, filter_all, filter_none, from_next, from_here, only_one, only_none, removed_none, OwnView, StateView, MarksView, handle_of, HasOwn, Holds, other, other_own, other_state, dropping, released, gave_all, Carries, Childless}
 use Rattle.psac_marks.proofs.Counted.{times_both, times_member, times_in}
 
 abbrev pub node_from : ℕ → ℕ → Bool
@@ -116,16 +101,14 @@ module _ (v : MarksView) (r : Ready v) (n : ℕ) where
     not_held : (h : Handle) → Member h v.claims.held → h.slot ≢ n
     not_held h m is =
         let k = member_times h (filter (held_from n) v.claims.held) (filter_member (held_from n) h v.claims.held m (ap (node_from n) is ∙ self_from n)) in
-        let z = ap (λ s. slot_times s (filter (held_from n) v.claims.held)) is in
-        omega (arith, k, z, none)
+        omega (arith, k, ap (λ s. slot_times s (filter (held_from n) v.claims.held)) is, none)
 
     not_own : (o : OwnView) → Member o v.own → o.node.slot ≢ n
     not_own o m = not_held o.node (r.holds.out o m)
 
     stay_nodes : (xs : List ℕ) → ((x : ℕ) → 0 < times x xs → HasOwn v.own x) → filter (other n) (filter (node_from n) xs) ≡ filter (node_from n) xs
     stay_nodes xs own = filter_all (other n) (filter (node_from n) xs) (λ x m.
-        let k = times_member x xs (member_filter (node_from n) x xs m).0 in
-        let o = own x (omega (arith, k)) in
+        let o = own x (omega (arith, times_member x xs (member_filter (node_from n) x xs m).0)) in
         ap not (ne_eqb x n (λ e. not_own o.0 o.1 (o.2 ∙ e))))
 
     pub gives_none : gave_below n v ≡ gave_below (suc n) v
@@ -146,9 +129,7 @@ module _ (v : MarksView) (r : Ready v) (n : ℕ) where
   all_childless x o m is =
       let q = member_filter (own_from n) o v.own m in
       let k = member_times o.node v.claims.held (r.holds.out o q.0) in
-      let d = r.dropped o.node.slot (omega (arith, k)) in
-      let t = times_in (node_from n) o.node.slot v.dropped q.1 in
-      omega (arith, d, t)
+      omega (arith, r.dropped o.node.slot (omega (arith, k)), times_in (node_from n) o.node.slot v.dropped q.1)
 
   pub ends : n ≡ v.claims.count → gave_below n v ≡ gave_all v
   ends is =
@@ -184,8 +165,7 @@ ready v xs h out all held low = record {
     dropped = λ x p. ⊎_elim
         (λ (q : 0 < times x v.dropped). h.dropped x q)
         (λ (q : times x v.dropped ≤ 0).
-        let a = times_both x v.dropped xs in
-        let g = found x v.claims.held (out x (omega (arith, a, p, q))) in
+        let g = found x v.claims.held (out x (omega (arith, times_both x v.dropped xs, p, q))) in
         let o = h.owned g.0 g.1 in
         (o.0, o.1, ap (λ (k : Handle). k.slot) o.2 ∙ g.2))
         (cases_lt 0 (times x v.dropped));

@@ -1,23 +1,9 @@
 -- What the four stores of a node's going make of a view.
 use Rattle.std.proofs.Common.{◌≡◌, ◌≢◌, ℕ, suc, ◌+◌, ◌*◌, ◌/◌, ◌%◌, ◌<◌, ◌≤◌, List, [], ◌∷◌, map, Bool, true, false, cond, refl, sym, ap, ◌∙◌, subst, ⊎_elim, arith, Option, Some, None, length-append}
-use Rattle.std.specs.Prelude.{filter, not, ◌==◌}
-use Rattle.std.proofs.lemmas.Bool.{eq-eqb, ne_eqb, cases_eq, cases_lt}
-use Rattle.psac_ops.specs.declared.plain.Handle.{Handle}
-use Rattle.psac_slots.specs.Handles.{Member, later, removed, slot_times}
-use Rattle.psac_slots.specs.Claiming.{times, Accounted}
+use Rattle.psac_marks.proofs.Terms.{filter, not, ◌==◌, eq-eqb, ne_eqb, cases_eq, cases_lt, Handle, Member, later, removed, slot_times, times, Accounted, accounted_returned, member_map, map_member, member_filter, member_times, found, OwnView, SharedView, StateView, MarksView, Place, own_place, shared_place, handle_of, free_word, state_at, other_own, other_state, hang, hung, put, stated, cleared, gave, released, Tells, Carries, Owns, Bare, Childless, filtered}
 use Rattle.psac_slots.proofs.Carrying as ring
-use Rattle.psac_slots.proofs.Carrying.{accounted_returned}
-use Rattle.psac_slots.proofs.Pairs.{member_map, map_member, member_filter}
-use Rattle.psac_slots.proofs.Removed.{member_times, found}
-use Rattle.psac_marks.specs.declared.view.OwnView.{OwnView}
-use Rattle.psac_marks.specs.declared.view.SharedView.{SharedView}
-use Rattle.psac_marks.specs.declared.view.StateView.{StateView}
-use Rattle.psac_marks.specs.declared.view.MarksView.{MarksView}
-use Rattle.psac_marks.specs.Marked.{Place, own_place, shared_place, handle_of, free_word, state_at}
-use Rattle.psac_marks.specs.Steps.{other_own, other_state, hang, hung, put, stated, cleared, gave, released, Tells}
-use Rattle.psac_marks.specs.Passes.{Carries, Owns, Bare, Childless}
 use Rattle.psac_marks.proofs.Parts.{times_gone, place_own, place_shared, place_cases}
-use Rattle.psac_marks.proofs.Giving.{MayGo, filtered}
+use Rattle.psac_marks.proofs.Giving.{MayGo}
 
 -- the node isn't marked, is a root, and its state says that it is free
 abbrev pub leaving : Handle → MarksView → MarksView
@@ -98,7 +84,7 @@ module _ (nodes head room words : ℕ) (v : MarksView) (p : Carries nodes head r
     small = p.small;
     climb = p.climb;
     out = λ t mt. p.out t (member_filter (other_state g.slot) t v.states mt).0;
-    held_is = filtered g.slot v.states ∙ ap (removed g.slot) p.held_is;
+    held_is = filtered handle_of g.slot v.states ∙ ap (removed g.slot) p.held_is;
     low = λ e me. ⊎_elim
         (λ (q : (o : OwnView) × Member o (released g v).own × (own_place v.claims.branch o ≡ e)). subst (λ (z : Place). z.node.slot < nodes) q.2 (p.low (own_place v.claims.branch q.0) (place_own v q.0 (member_filter (other_own g.slot) q.0 v.own q.1).0)))
         (λ (q : (s : SharedView) × Member s v.shared × (shared_place s ≡ e)). subst (λ (z : Place). z.node.slot < nodes) q.2 (p.low (shared_place q.0) (place_shared v q.0 q.1)))
@@ -110,12 +96,8 @@ module _ (nodes head room words : ℕ) (v : MarksView) (p : Carries nodes head r
   stated_out : (g : Handle) → Member g v.claims.held → g.slot ≡ x → n ≡ suc (2 * g.generation)
   stated_out g m e =
       let s = state_of nodes head room words v p g m in
-      let k = p.nodes_is in
       let slot = ap (λ (h : Handle). h.slot) s.2 in
-      let made = ap (λ (h : Handle). h.generation) s.2 in
-      let w = t.state s.0 s.1 (omega (arith, is, k, slot, e)) in
-      let o = (p.out s.0 s.1).0 in
-      omega (arith, w, o, made)
+      omega (arith, t.state s.0 s.1 (omega (arith, is, p.nodes_is, slot, e)), (p.out s.0 s.1).0, ap (λ (h : Handle). h.generation) s.2)
 
   pub was_free : n % 2 ≡ 0 → slot_times x v.claims.held ≡ 0
   was_free even = ⊎_elim
@@ -128,8 +110,7 @@ module _ (nodes head room words : ℕ) (v : MarksView) (p : Carries nodes head r
       (λ (some : 0 < slot_times x v.claims.held).
       let g = found x v.claims.held some in
       let slot = g.2 in
-      let o = stated_out g.0 g.1 slot in
-      let made : g.0.generation ≡ n / 2 = omega (arith, o) in
+      let made : g.0.generation ≡ n / 2 = omega (arith, stated_out g.0 g.1 slot) in
       let same : g.0 ≡ record { slot = x; generation = n / 2 } = λ j. record { slot = slot j; generation = made j } in
       subst (λ (h : Handle). Member h v.claims.held × Owns v h) same (g.1, (t.holds 0 sole).owned g.0 g.1))
       (λ (z : slot_times x v.claims.held ≤ 0). let k = p.nodes_is in let f = t.free 0 x sole (omega (arith, low, k)) (omega (arith, z)) (omega (arith, is, k)) in let e = f.1 in absurd (odd (omega (arith, e))))

@@ -1,32 +1,9 @@
 -- What the rule says of one view, and of a pass that is the only one.
-use Rattle.std.proofs.Common.{◌≡◌, ◌≢◌, ℕ, List, [], ◌∷◌, map, true, false, true≢false, sym, ap, ◌∙◌, subst, ⊎_elim, arith, Some}
-use Rattle.std.proofs.lemmas.Bool.{cases_eq}
-use mathlib.Core.Option.{some, some-injective}
-use lib.ListN.{get_elem?}
-use Rattle.atomic_table.proofs.Lists.{at_map}
-use Rattle.psac_ops.specs.declared.plain.Handle.{Handle}
-use Rattle.psac_slots.specs.declared.view.ClaimView.{ClaimView}
-use Rattle.psac_slots.specs.Branches.{is_prefix}
-use Rattle.psac_slots.specs.Handles.{Member, slot_times, IsDistinct}
-use Rattle.psac_slots.proofs.Acts.{sole_parts}
-use Rattle.psac_slots.proofs.Given.{only_one}
-use Rattle.psac_slots.proofs.Removed.{member_times, at_most_once}
-use Rattle.psac_slots.proofs.Sums.{sum_at}
-use Rattle.psac_marks.specs.declared.view.OwnView.{OwnView}
-use Rattle.psac_marks.specs.declared.view.SharedView.{SharedView}
-use Rattle.psac_marks.specs.declared.view.MarksView.{MarksView}
-use Rattle.psac_marks.specs.Marked.{Place, own_place, shared_place, places, claims_of, rights_of, Grown, tree_of, marks_of, Has, HasOwn, Marked}
-use Rattle.psac_marks.specs.Steps.{Holds}
+use Rattle.std.proofs.Common.{◌≡◌, ◌≢◌, ℕ, List, [], map, true, false, true≢false, sym, ap, ◌∙◌, subst, ⊎_elim, arith, Some}
+use Rattle.psac_marks.proofs.Terms.{cases_eq, some, some-injective, get_elem?, at_map, Handle, ClaimView, is_prefix, Member, slot_times, IsDistinct, sole_parts, same_slot, member_times, at_most_once, sum_at, OwnView, SharedView, MarksView, Place, own_place, shared_place, places, claims_of, rights_of, Grown, tree_of, marks_of, Has, HasOwn, Marked, Holds}
 use Rattle.psac_marks.proofs.Parts.{place_own, place_cases}
 use Rattle.psac_marks.proofs.Keeps.{at_mapped}
 use Rattle.psac_marks.proofs.Alone.{dead, nothing_shared, holds_own}
-
-head_of : (x y : Handle) → x ∷ [] ≡ y ∷ [] → x ≡ y
-head_of x y e = cc
-
--- where no slot stands twice, a slot names its handle
-pub same_slot : (hs : List Handle) (x y : Handle) → IsDistinct hs → Member x hs → Member y hs → x.slot ≡ y.slot → x ≡ y
-same_slot hs x y d mx my e = head_of x y (sym (only_one x hs d mx) ∙ (ap (λ s. Rattle.psac_slots.specs.Given.only s hs) e ∙ only_one y hs d my))
 
 module _ (nodes : ℕ) (words : List ℕ) (views : List MarksView) (h : Marked nodes words views) where
   -- who has a node is live
@@ -45,9 +22,8 @@ module _ (nodes : ℕ) (words : List ℕ) (views : List MarksView) (h : Marked n
   -- what is out some pass has
   pub out_placed : (i : ℕ) (v : MarksView) (x : Handle) → get_elem? views i ≡ some v → Member x v.claims.held → (j : ℕ) × (u : MarksView) × (get_elem? views j ≡ some u) × Has (places u) x.slot
   out_placed i v x at m =
-      let a = member_times x v.claims.held m in
       let b = sum_at (λ (g : Grown). slot_times x.slot g.held) (map tree_of views) i (tree_of v) (at_map tree_of views i v at) in
-      let p = h.tree.had x.slot (omega (arith, a, b)) in
+      let p = h.tree.had x.slot (omega (arith, member_times x v.claims.held m, b)) in
       let q = at_mapped tree_of views p.0 p.1 p.2 in
       (p.0, q.0, q.1, subst (λ (g : Grown). Has g.places x.slot) (sym q.2) p.3)
 

@@ -1,31 +1,8 @@
 -- Each step of one pass keeps the rule of marks.
 use Rattle.std.proofs.Common.{◌≡◌, ◌≢◌, ◌⊎◌, ℕ, zero, suc, ◌+◌, ◌*◌, ◌%◌, ◌^◌, ◌<◌, ◌≤◌, List, [], ◌∷◌, ◌++◌, map, length, set, take, drop, true, cond, refl, sym, ap, ◌∙◌, subst, inl, inr, ⊎_elim, arith, Option, Some, None, length-set}
-use Rattle.std.specs.Prelude.{◌==◌, sum_by, IfSome}
-use Rattle.std.proofs.lemmas.List.Sums.{sum_by-cons}
-use Rattle.std.proofs.lemmas.Bool.{eq-eqb, ne_eqb, cases_eq, le-ltb, cases_lt}
-use mathlib.Core.Option.{some, some-ne-none, some-injective}
-use lib.ListN.{get_elem?}
-use Rattle.atomic_table.proofs.Lists.{at_map}
-use Rattle.psac_ops.specs.declared.plain.Handle.{Handle}
-use Rattle.psac_slots.specs.Branches.{is_prefix}
-use Rattle.psac_slots.specs.Handles.{Member, slot_times, once_below}
-use Rattle.psac_slots.specs.Divided.{Rights, Divided}
-use Rattle.psac_slots.specs.declared.view.ClaimView.{ClaimView}
+use Rattle.psac_marks.proofs.Terms.{◌==◌, sum_by, IfSome, sum_by-cons, eq-eqb, ne_eqb, cases_eq, le-ltb, cases_lt, some, some-ne-none, some-injective, get_elem?, at_map, Handle, is_prefix, Member, slot_times, once_below, Rights, Divided, ClaimView, times, bit, sum_set, sum_at, sum_two, sum_none, all_set, member_left, member_right, member_cases, member_map, map_member, entry_at, later_member, member_times, at_most_once, prefix_refl, changes, OwnView, SharedView, StateView, MarksView, mark_at, parent_at, state_at, parent_word, Place, own_place, shared_place, places, claims_of, handle_of, ways, rights_of, Grown, tree_of, Raising, marks_of, Stating, states_of, Has, HasOwn, held_times, Tree, marks, Supported, Climbing, AreStated, Meeting, Marked, new_own, drew, Lacks, hang, hung, stated, raised, cleared, detached, MayRaise}
 use Rattle.psac_slots.specs.Claiming as claiming
-use Rattle.psac_slots.specs.Claiming.{times}
 use Rattle.psac_slots.proofs.Keeps as laws
-use Rattle.psac_slots.proofs.Sums.{bit, sum_set, sum_at, sum_two, sum_none, all_set}
-use Rattle.psac_slots.proofs.Pairs.{member_left, member_right, member_cases, member_map, map_member}
-use Rattle.psac_slots.proofs.Removed.{member_times, at_most_once}
-use Rattle.psac_slots.proofs.Turns.{prefix_refl}
-use Rattle.psac_slots.proofs.Dividing.{changes}
-use Rattle.psac_marks.specs.declared.view.OwnView.{OwnView}
-use Rattle.psac_marks.specs.declared.view.SharedView.{SharedView}
-use Rattle.psac_marks.specs.declared.view.StateView.{StateView}
-use Rattle.psac_marks.specs.declared.view.MarksView.{MarksView}
-use Rattle.psac_marks.specs.Marked.{mark_at, parent_at, state_at, parent_word, Place, own_place, shared_place, places, claims_of, handle_of, ways, rights_of, Grown, tree_of, Raising, marks_of, Stating, states_of, Has, HasOwn, held_times, Tree, marks, Supported, Climbing, AreStated, Meeting, Marked}
-use Rattle.psac_marks.specs.Steps.{new_own, drew, Lacks, hang, hung, stated, raised, cleared, detached}
-use Rattle.psac_marks.specs.Passes.{MayRaise}
 use Rattle.psac_marks.proofs.Parts.{same_part, new_part, place_own, place_shared, place_cases}
 use Rattle.psac_marks.proofs.Trees.{out_held, tree_else, tree_draws, tree_hangs, tree_detaches}
 use Rattle.psac_marks.proofs.Climbs.{climbs_else, climbs_places, first_mark, second_mark, climbs_clear}
@@ -39,19 +16,6 @@ at_mapped f (u ∷ l) (suc j) r e = at_mapped f l j r e
 pub sum_map : {A B : Type 0} (f : A → B) (g : B → ℕ) (l : List A) → sum_by g (map f l) ≡ sum_by (λ x. g (f x)) l
 sum_map f g [] = refl
 sum_map f g (x ∷ l) = let a = sum_by-cons g (f x) (map f l) in let b = sum_by-cons (λ y. g (f y)) x l in let r = sum_map f g l in omega (arith, a, b, r)
-
-pub entry_at : (l : List Handle) (n : ℕ) (x : Handle) → Member x (claiming.entry l n) → get_elem? l n ≡ some x
-entry_at [] zero x m = absurd m
-entry_at [] (suc n) x m = absurd m
-entry_at (y ∷ l) zero x m = ⊎_elim (λ e. ap some e) (λ b. absurd b) m
-entry_at (y ∷ l) (suc n) x m = entry_at l n x m
-
-pub later_member : (l : List Handle) (c k : ℕ) (x : Handle) → c ≤ k → get_elem? l k ≡ some x → Member x (drop c l)
-later_member [] c k x le e = absurd (some-ne-none x (sym e))
-later_member (y ∷ l) zero zero x le e = inl (some-injective y x e)
-later_member (y ∷ l) zero (suc k) x le e = inr (later_member l zero k x (omega arith) e)
-later_member (y ∷ l) (suc c) zero x le e = absurd (omega arith)
-later_member (y ∷ l) (suc c) (suc k) x le e = later_member l c k x (omega arith) e
 
 module _ (nodes : ℕ) (words : List ℕ) (views : List MarksView) (h : Marked nodes words views) where
   pub held_is : (x : ℕ) → held_times x (map tree_of views) ≡ sum_by (λ (c : ClaimView). slot_times x c.held) (map claims_of views)
@@ -325,16 +289,13 @@ module _ (nodes : ℕ) (words : List ℕ) (views : List MarksView) (h : Marked n
           states = new_part states_of (AreStated nodes h.counter h.list (set words i n)) views id w (states_put nodes h.counter h.list words (map states_of views) h.states id (states_of v) at_states x n small h.long
               (λ j s k ne d m is.
               let u = at_mapped states_of views j s d in
-              let theirs = state_held j u.0 k u.1 (subst (λ (z : Stating). Member k z.states) (sym u.2) m) in
               let there = ap (λ y. slot_times y u.0.claims.held) is in
               let two = sum_two (λ (y : ClaimView). slot_times x y.held) (map claims_of views) j id u.0.claims v.claims ne (at_map claims_of views j u.0 u.1) at_claims in
-              omega (arith, theirs, there, two, mine, whole, once))
+              omega (arith, state_held j u.0 k u.1 (subst (λ (z : Stating). Member k z.states) (sym u.2) m), there, two, mine, whole, once))
               (λ k y le e is.
-              let none = (undrawn y (later_member h.list h.counter k y le e)).0 in
               let there = ap (λ z. held_times z (map tree_of views)) is in
               let one = sum_at (λ (z : ClaimView). slot_times x z.held) (map claims_of views) id v.claims at_claims in
-              let s = held_is x in
-              omega (arith, none, there, one, mine, s)));
+              omega (arith, (undrawn y (later_member h.list h.counter k y le e)).0, there, one, mine, held_is x)));
           met = met_after w (h.met id v at);
         }
 

@@ -1,21 +1,7 @@
 -- What the rule of marks gives.
 use Rattle.std.proofs.Common.{◌≡◌, ◌≢◌, ◌⊎◌, ℕ, ◌<◌, List, [], ◌∷◌, map, set, true, true≢false, refl, sym, ap, ◌∙◌, subst, inl, inr, ⊎_elim, arith, Option, Some, None}
-use Rattle.std.proofs.lemmas.Bool.{cases_eq, cases_lt}
-use Rattle.std.proofs.lemmas.List.Sums.{sum_by-cons}
-use mathlib.Core.Option.{some, some-injective}
-use lib.ListN.{get_elem?}
-use Rattle.atomic_table.proofs.Lists.{at_map}
-use Rattle.psac_slots.specs.Handles.{Member}
-use Rattle.psac_slots.specs.Divided.{Own, Beside}
-use Rattle.psac_slots.specs.Claiming.{times}
+use Rattle.psac_marks.proofs.Terms.{cases_eq, cases_lt, sum_by-cons, some, some-injective, get_elem?, at_map, Member, Own, Beside, times, sum_set, sum_none, all_set, OwnView, SharedView, MarksView, parent_word, Place, own_place, shared_place, places, claims_of, rights_of, tree_of, Raising, marks_of, marks, HasOwn, Marked, spent, holders, Promised}
 use Rattle.psac_slots.proofs.Kept as slots
-use Rattle.psac_slots.proofs.Sums.{sum_set, sum_none, all_set}
-use Rattle.psac_marks.specs.declared.view.OwnView.{OwnView}
-use Rattle.psac_marks.specs.declared.view.SharedView.{SharedView}
-use Rattle.psac_marks.specs.declared.view.MarksView.{MarksView}
-use Rattle.psac_marks.specs.Marked.{parent_at, parent_word, Place, own_place, shared_place, places, claims_of, rights_of, tree_of, Raising, marks_of, marks, Has, HasOwn, Marked}
-use Rattle.psac_marks.specs.Steps.{spent}
-use Rattle.psac_marks.specs.Promised.{holders, Promised}
 use Rattle.psac_marks.proofs.Parts.{place_cases}
 use Rattle.psac_marks.proofs.Keeps.{at_mapped, place_low, held_is, lacks}
 use Rattle.psac_marks.proofs.Alone.{dead}
@@ -53,9 +39,8 @@ module _ (nodes : ℕ) (words : List ℕ) (views : List MarksView) (h : Marked n
   own_mark : (i : ℕ) (v : MarksView) (o : OwnView) → get_elem? views i ≡ some v → Member o v.own → holders o.node.slot views ≡ times o.node.slot v.marked
   own_mark i v o e m =
       let f : MarksView → ℕ = λ u. times o.node.slot u.marked in
-      let a = sum_set f views i v spent e in
       let z = sum_none f (set views i spent) (all_set (λ _ u. f u ≡ 0) views i spent refl (λ j u n d. others_none i j v u o e m n d)) in
-      omega (arith, a, z)
+      omega (arith, sum_set f views i v spent e, z)
 
   children : (i j : ℕ) (v u : MarksView) (o : OwnView) (e : Place) → get_elem? views i ≡ some v → get_elem? views j ≡ some u → Member o v.own → Member e (places u) → e.parent ≡ Some o.node.slot → times e.node.slot u.dropped ≡ 0 → (i ≡ j) × HasOwn u.own e.node.slot
   children i j v u o e at d m has is kept =
@@ -96,8 +81,7 @@ module _ (nodes : ℕ) (words : List ℕ) (views : List MarksView) (h : Marked n
     claims = slots.promised nodes h.counter h.head h.list words (map claims_of views) h.claims;
     free_lacked = λ i v x e f.
         let n = slots.unheld words (map claims_of views) (slots.promised nodes h.counter h.head h.list words (map claims_of views) h.claims) x f in
-        let k = held_is nodes words views h x in
-        lacks nodes words views h x (omega (arith, n, k)) i v e;
+        lacks nodes words views h x (omega (arith, n, held_is nodes words views h x)) i v e;
     placed = λ i v x e m. out_placed nodes words views h i v x e m;
     one_owner = λ i j v u o c e d n a b is. (beside_at i j v u e d n).alone o c a b (sym is);
     own_unshared = λ i j v u o x e d a b. ⊎_elim

@@ -1,23 +1,7 @@
 -- The words at the start meet the rule of marks.
 use Rattle.std.proofs.Common.{◌≡◌, ◌≢◌, ℕ, zero, suc, ◌+◌, ◌*◌, ◌<◌, ◌≤◌, List, [], ◌∷◌, ◌++◌, map, length, refl, sym, ap, ◌∙◌, subst, ⊎_elim, arith, None, length-append}
-use Rattle.std.specs.Prelude.{IfSome}
-use Rattle.std.proofs.lemmas.List.{length-map}
-use Rattle.std.proofs.lemmas.Bool.{cases_lt}
-use Rattle.atomic_table.proofs.Lists.{at_longer}
-use mathlib.Core.Option.{some, some-ne-none}
-use lib.ListN.{get_elem?}
-use Rattle.psac_ops.specs.declared.plain.Handle.{Handle}
-use Rattle.psac_slots.specs.Handles.{Member, word_of, fresh}
-use Rattle.psac_slots.specs.Divided.{Own, Rights}
+use Rattle.psac_marks.proofs.Terms.{IfSome, length-map, cases_lt, at_longer, some, some-ne-none, get_elem?, Handle, Member, word_of, fresh, Own, Rights, length-fresh, at_new, OwnView, SharedView, MarksView, Place, Grown, Raising, Stating, rights_of, tree_of, marks_of, states_of, ways, Meeting, Marked, first_view, blank, first_words, Carries}
 use Rattle.psac_slots.proofs.Opens as slots
-use Rattle.psac_slots.proofs.Removed.{length-fresh}
-use Rattle.psac_slots.proofs.Sums.{at_new}
-use Rattle.psac_marks.specs.declared.view.OwnView.{OwnView}
-use Rattle.psac_marks.specs.declared.view.SharedView.{SharedView}
-use Rattle.psac_marks.specs.declared.view.MarksView.{MarksView}
-use Rattle.psac_marks.specs.Marked.{Place, Grown, Raising, Stating, rights_of, tree_of, marks_of, states_of, ways, HasOwn, Meeting, Marked}
-use Rattle.psac_marks.specs.Steps.{first_view, blank, first_words}
-use Rattle.psac_marks.specs.Passes.{Carries}
 
 pub length-blank : (n : ℕ) → length (blank n) ≡ 3 * n
 length-blank zero = refl
@@ -56,10 +40,7 @@ module _ (nodes : ℕ) (fits : nodes < 4294967296) where
 
   pub length_first : length (first_words nodes nodes) ≡ suc (nodes + 3 * nodes)
   length_first =
-      let a = length-append (map word_of (fresh nodes)) (blank nodes) in
-      let b = ring_length in
-      let c = length-blank nodes in
-      omega (arith, a, b, c)
+      omega (arith, length-append (map word_of (fresh nodes)) (blank nodes), ring_length, length-blank nodes)
 
   pub opens : Marked nodes (first_words nodes nodes) (first_view nodes ∷ [])
   opens =

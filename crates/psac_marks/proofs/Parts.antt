@@ -1,21 +1,6 @@
 -- Lists of nodes, places of views, and parts of the rule that a step leaves alone.
 use Rattle.std.proofs.Common.{◌≡◌, ◌≢◌, ◌⊎◌, ℕ, zero, suc, ◌+◌, List, [], ◌∷◌, ◌++◌, map, set, Bool, true, false, cond, refl, sym, ap, ◌∙◌, subst, inl, inr, ⊎_elim, arith}
-use Rattle.std.specs.Prelude.{filter, not, ◌==◌}
-use Rattle.std.proofs.lemmas.List.{map-set}
-use Rattle.std.proofs.lemmas.List.Sums.{sum_by-cons, sum_by_push}
-use Rattle.std.proofs.lemmas.Bool.{eq-eqb, eqb-true, ne_eqb}
-use mathlib.Core.Option.{some, some-ne-none}
-use lib.ListN.{get_elem?}
-use Rattle.atomic_table.proofs.Lists.{at_map, set_again}
-use Rattle.psac_slots.specs.Handles.{Member}
-use Rattle.psac_slots.specs.Claiming.{times}
-use Rattle.psac_slots.proofs.Sums.{bit}
-use Rattle.psac_slots.proofs.Pairs.{member_left, member_right, member_cases, member_map, map_member}
-use Rattle.psac_marks.specs.declared.view.OwnView.{OwnView}
-use Rattle.psac_marks.specs.declared.view.SharedView.{SharedView}
-use Rattle.psac_marks.specs.declared.view.MarksView.{MarksView}
-use Rattle.psac_marks.specs.Marked.{Place, own_place, shared_place, places}
-use Rattle.psac_marks.specs.Steps.{other}
+use Rattle.psac_marks.proofs.Terms.{filter, not, ◌==◌, map-set, sum_by-cons, sum_by_push, eq-eqb, eqb-true, ne_eqb, some, some-ne-none, get_elem?, at_map, set_again, Member, times, bit, member_left, member_right, member_cases, member_map, map_member, OwnView, SharedView, MarksView, Place, own_place, shared_place, places, other}
 
 -- a part of the rule stays where what it reads of the view does
 pub same_part : {P : Type 0} (f : MarksView → P) (F : List P → Type 0) (views : List MarksView) (id : ℕ) (v w : MarksView) → get_elem? views id ≡ some v → f w ≡ f v → F (map f views) → F (map f (set views id w))

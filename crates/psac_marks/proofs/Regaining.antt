@@ -1,20 +1,8 @@
 -- A sole pass learns the counter, and sets it back.
 use Rattle.std.proofs.Common.{◌≡◌, ℕ, ◌+◌, List, [], map, set, take, drop, length, true, refl, sym, ap, ◌∙◌, subst, arith, Some, length-set}
-use Rattle.std.specs.Prelude.{slice_index}
-use Rattle.std.proofs.lemmas.List.{set-get_or}
-use mathlib.Core.Option.{some, none as vacant}
-use lib.ListN.{get_elem?}
-use Rattle.atomic_table.specs.Table.{State, Allows, keeps, step}
-use Rattle.atomic_table.proofs.Lists.{at_map}
-use Rattle.psac_ops.specs.declared.plain.Handle.{Handle}
+use Rattle.psac_marks.proofs.Terms.{slice_index, set-get_or, some, none as vacant, get_elem?, State, Allows, keeps, step, at_map, Handle, Divided, sole_parts, slice_at, at_drop, MarksView, claims_of, ways, rights_of, tree_of, marks_of, Stating, states_of, Tree, Climbing, AreStated, Marked, regained, Regained, rewound, Rewound}
 use Rattle.psac_slots.specs.Claiming as claiming
-use Rattle.psac_slots.specs.Divided.{Divided}
 use Rattle.psac_slots.proofs.Rewinds as turns
-use Rattle.psac_slots.proofs.Acts.{sole_parts, slice_at}
-use Rattle.psac_slots.proofs.Sums.{at_drop}
-use Rattle.psac_marks.specs.declared.view.MarksView.{MarksView}
-use Rattle.psac_marks.specs.Marked.{claims_of, ways, rights_of, tree_of, marks_of, Stating, states_of, Tree, Climbing, AreStated, Marked}
-use Rattle.psac_marks.specs.Steps.{regained, Regained, rewound, Rewound}
 use Rattle.psac_marks.proofs.Parts.{same_part, new_part}
 use Rattle.psac_marks.proofs.Keeps.{met_after}
 use Rattle.psac_marks.proofs.Trees.{tree_else}

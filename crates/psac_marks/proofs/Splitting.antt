@@ -1,30 +1,8 @@
 -- Splits keep the rule.
 use Rattle.std.proofs.Common.{◌≡◌, ◌≢◌, ◌⊎◌, ℕ, ◌+◌, ◌<◌, ◌≤◌, List, [], ◌∷◌, ◌++◌, map, length, set, Bool, true, false, true≢false, ltb, refl, sym, ap, ◌∙◌, subst, inl, inr, ⊎_elim, arith, Option, Some, None}
-use Rattle.std.specs.Prelude.{filter, not, ◌&&◌, IfSome}
-use Rattle.std.proofs.lemmas.List.Sums.{sum_by_push}
-use Rattle.std.proofs.lemmas.List.{map-append, map-set}
-use Rattle.std.proofs.lemmas.Bool.{cases_eq, cases_Bool, cases_lt, lt-ltb, ltb-true, and_parts}
-use mathlib.Core.Option.{some, some-injective}
-use lib.ListN.{get_elem?}
-use Rattle.atomic_table.proofs.Lists.{at_map, at_set, at_snoc, at_longer, at_last, set_else}
-use Rattle.psac_ops.specs.declared.plain.Handle.{Handle}
-use Rattle.psac_slots.specs.Branches.{is_prefix}
-use Rattle.psac_slots.specs.Handles.{Member, slot_times}
+use Rattle.psac_marks.proofs.Terms.{filter, not, ◌&&◌, IfSome, sum_by_push, map-append, map-set, cases_eq, cases_Bool, cases_lt, lt-ltb, ltb-true, and_parts, some, some-injective, get_elem?, at_map, at_set, at_snoc, at_longer, at_last, set_else, Handle, is_prefix, Member, slot_times, times, Rights, Divided, stays, goes, lends, sum_set, all_set, all_end, prefix_refl, prefix_long, member_left, member_right, filter_member, map_member, one_after, is_off, divides, told_cases, on_left, on_right, prefix_short_length, OwnView, SharedView, StateView, MarksView, Place, own_place, shared_place, places, claims_of, handle_of, ways, rights_of, Grown, tree_of, Raising, marks_of, Stating, states_of, Has, HasOwn, Out, held_times, Tree, marks, Supported, Climbing, IsStated, AreStated, Meeting, Marked, goes_over, stays_here, now_shared, left_of, right_of, Parted}
 use Rattle.psac_slots.specs.Claiming as claiming
-use Rattle.psac_slots.specs.Claiming.{times}
-use Rattle.psac_slots.specs.Divided.{Rights, Divided, stays, goes, lends}
 use Rattle.psac_slots.proofs.Keeps as laws
-use Rattle.psac_slots.proofs.Sums.{sum_set, all_set, all_end}
-use Rattle.psac_slots.proofs.Turns.{prefix_refl, prefix_long}
-use Rattle.psac_slots.proofs.Pairs.{member_left, member_right, member_filter, filter_member, map_member, one_after}
-use Rattle.psac_slots.proofs.Dividing.{is_off, divides, told_cases, on_left, on_right, prefix_short_length}
-use Rattle.psac_marks.specs.declared.view.OwnView.{OwnView}
-use Rattle.psac_marks.specs.declared.view.SharedView.{SharedView}
-use Rattle.psac_marks.specs.declared.view.StateView.{StateView}
-use Rattle.psac_marks.specs.declared.view.MarksView.{MarksView}
-use Rattle.psac_marks.specs.Marked.{Place, own_place, shared_place, places, claims_of, handle_of, ways, rights_of, Grown, tree_of, Raising, marks_of, Stating, states_of, Has, HasOwn, Out, held_times, Tree, marks, Supported, Climbing, IsStated, AreStated, Meeting, Marked}
-use Rattle.psac_marks.specs.Steps.{goes_over, stays_here, now_shared, left_of, right_of}
-use Rattle.psac_marks.specs.Passes.{Parted}
 use Rattle.psac_marks.proofs.Parts.{here, place_own, place_shared, place_cases}
 use Rattle.psac_marks.proofs.Counted.{times_both, times_member, times_found, times_in, times_out}
 use Rattle.psac_marks.proofs.Keeps.{at_mapped, drops_own, shared_kept}
@@ -274,8 +252,7 @@ module _ (shared to_right : ℕ → Bool) (v : MarksView) where
     left_dropped x p = ⊎_elim
         (λ (e : goes_over shared to_right v x ≡ true). let z = times_out (λ y. not (goes_over shared to_right v y)) x v.dropped (ap not e) in absurd (omega (arith, p, z)))
         (λ (e : goes_over shared to_right v x ≡ false).
-        let z = times_in (λ y. not (goes_over shared to_right v y)) x v.dropped (ap not e) in
-        let some : 0 < times x v.dropped = omega (arith, p, z) in
+        let some : 0 < times x v.dropped = omega (arith, p, times_in (λ y. not (goes_over shared to_right v y)) x v.dropped (ap not e)) in
         let o = own x some in
         let s : shared o.0.node.slot ≡ false = ap shared o.2 ∙ parted.dropped x some in
         (o.0, own_left o.0 o.1 s (⊎_elim (λ (t : to_right o.0.node.slot ≡ true). absurd (true≢false (sym (over o.0 o.1 s t) ∙ (ap (goes_over shared to_right v) o.2 ∙ e)))) (λ t. t) (cases_Bool (to_right o.0.node.slot))), o.2))

@@ -1,17 +1,6 @@
 -- What steps make of the states.
 use Rattle.std.proofs.Common.{◌≡◌, ◌≢◌, ℕ, suc, ◌+◌, ◌*◌, ◌<◌, ◌≤◌, List, [], ◌∷◌, ◌++◌, map, length, set, cond, refl, sym, ap, ◌∙◌, subst, ⊎_elim, arith}
-use Rattle.std.proofs.lemmas.List.{map-append}
-use Rattle.std.proofs.lemmas.Bool.{eq-eqb, ne_eqb, cases_eq}
-use mathlib.Core.Option.{some}
-use lib.ListN.{get_elem?}
-use Rattle.atomic_table.proofs.Lists.{set_here, set_else}
-use Rattle.psac_ops.specs.declared.plain.Handle.{Handle}
-use Rattle.psac_slots.specs.Handles.{Member}
-use Rattle.psac_slots.proofs.Sums.{all_set}
-use Rattle.psac_slots.proofs.Pairs.{member_cases, member_map}
-use Rattle.psac_marks.specs.declared.view.StateView.{StateView}
-use Rattle.psac_marks.specs.Marked.{state_at, handle_of, Stating, IsStated, AreStated}
-use Rattle.psac_marks.specs.Steps.{new_state, put}
+use Rattle.psac_marks.proofs.Terms.{map-append, eq-eqb, ne_eqb, cases_eq, some, get_elem?, set_here, set_else, Handle, Member, all_set, member_cases, member_map, StateView, state_at, handle_of, Stating, IsStated, AreStated, new_state, put}
 
 stated_else : (nodes : ℕ) (words : List ℕ) (i x : ℕ) (t : StateView) → state_at nodes t.of.slot ≢ i → IsStated nodes words t → IsStated nodes (set words i x) t
 stated_else nodes words i x t n p = record { low = p.low; stands = set_else words i (state_at nodes t.of.slot) x n ∙ p.stands }

@@ -1,20 +1,6 @@
 -- What steps make of the tree.
 use Rattle.std.proofs.Common.{◌≡◌, ◌≢◌, ◌⊎◌, ℕ, ◌+◌, ◌*◌, ◌<◌, ◌≤◌, List, [], ◌∷◌, ◌++◌, map, length, set, Bool, true, cond, refl, sym, ap, ◌∙◌, subst, inl, inr, ⊎_elim, arith, Option, Some, None}
-use Rattle.std.specs.Prelude.{◌==◌}
-use Rattle.std.proofs.lemmas.List.Sums.{sum_by-append}
-use Rattle.std.proofs.lemmas.Bool.{eq-eqb, ne_eqb, cases_eq, cases_lt}
-use mathlib.Core.Option.{some, some-injective}
-use lib.ListN.{get_elem?}
-use Rattle.atomic_table.proofs.Lists.{at_set, set_here, set_else}
-use Rattle.psac_ops.specs.declared.plain.Handle.{Handle}
-use Rattle.psac_slots.specs.Branches.{is_prefix}
-use Rattle.psac_slots.specs.Handles.{Member, slot_times}
-use Rattle.psac_slots.specs.Claiming.{times}
-use Rattle.psac_slots.proofs.Sums.{bit, sum_set, sum_at, all_set}
-use Rattle.psac_slots.proofs.Pairs.{member_left, member_right, map_member}
-use Rattle.psac_slots.proofs.Removed.{member_times, found}
-use Rattle.psac_marks.specs.Marked.{parent_at, parent_word, Place, Grown, Has, HasOwn, Out, held_times, Tree}
-use Rattle.psac_marks.specs.Steps.{new_own, hang}
+use Rattle.psac_marks.proofs.Terms.{◌==◌, sum_by-append, eq-eqb, ne_eqb, cases_eq, cases_lt, some, some-injective, get_elem?, at_set, set_here, set_else, Handle, is_prefix, Member, slot_times, times, bit, sum_set, sum_at, all_set, member_left, member_right, map_member, member_times, found, parent_at, parent_word, Place, Grown, Has, HasOwn, Out, held_times, Tree, new_own, hang}
 use Rattle.psac_marks.proofs.Parts.{here, times_push}
 
 none_some : {A : Type 0} (a : A) → ◌≡◌ {A = Option A} None (Some a) → ⊥

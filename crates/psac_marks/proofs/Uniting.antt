@@ -1,30 +1,8 @@
 -- Joins keep the rule.
 use Rattle.std.proofs.Common.{◌≡◌, ◌≢◌, ◌⊎◌, ℕ, ◌<◌, ◌≤◌, List, [], ◌∷◌, ◌++◌, map, length, set, Bool, true, false, true≢false, cond, refl, sym, ap, ◌∙◌, subst, inl, inr, ⊎_elim, arith, Option, Some, None, length-append}
-use Rattle.std.specs.Prelude.{filter, not, ◌==◌, IfSome}
-use Rattle.std.proofs.lemmas.List.Sums.{sum_by-append}
-use Rattle.std.proofs.lemmas.List.{map-append, map-set}
-use Rattle.std.proofs.lemmas.Bool.{cases_eq, cases_Bool, cases_lt}
-use mathlib.Core.Option.{some, some-injective}
-use lib.ListN.{get_elem?}
-use Rattle.atomic_table.proofs.Lists.{at_map, at_set, set_else}
-use Rattle.psac_ops.specs.declared.plain.Handle.{Handle}
-use Rattle.psac_slots.specs.Branches.{is_prefix, stem}
-use Rattle.psac_slots.specs.Handles.{Member, slot_times}
+use Rattle.psac_marks.proofs.Terms.{filter, not, ◌==◌, IfSome, sum_by-append, map-append, map-set, cases_eq, cases_Bool, cases_lt, some, some-injective, get_elem?, at_map, at_set, set_else, Handle, is_prefix, stem, Member, slot_times, times, Rights, Divided, above, comes_back, sum_set, all_set, prefix_refl, stem_push, member_left, member_right, member_cases, filter_member, map_member, Strangers, unites, alone_cases, is_above, shared_same, meets, prefix_cut, prefix_whole, prefix_short_length, prefix_through, OwnView, SharedView, StateView, MarksView, Place, own_place, shared_place, places, claims_of, handle_of, ways, rights_of, Grown, tree_of, Raising, marks_of, Stating, states_of, Has, HasOwn, Out, held_times, Tree, marks, Supported, Climbing, IsStated, AreStated, Meeting, Marked, Lacks, joined, met, spent, United}
 use Rattle.psac_slots.specs.Claiming as claiming
-use Rattle.psac_slots.specs.Claiming.{times}
-use Rattle.psac_slots.specs.Divided.{Rights, Divided, above, comes_back}
 use Rattle.psac_slots.proofs.Keeps as laws
-use Rattle.psac_slots.proofs.Sums.{sum_set, all_set}
-use Rattle.psac_slots.proofs.Turns.{prefix_refl, stem_push}
-use Rattle.psac_slots.proofs.Pairs.{member_left, member_right, member_cases, filter_member, map_member}
-use Rattle.psac_slots.proofs.Dividing.{Strangers, unites, alone_cases, is_above, shared_same, meets, prefix_cut, prefix_whole, prefix_short_length, prefix_through}
-use Rattle.psac_marks.specs.declared.view.OwnView.{OwnView}
-use Rattle.psac_marks.specs.declared.view.SharedView.{SharedView}
-use Rattle.psac_marks.specs.declared.view.StateView.{StateView}
-use Rattle.psac_marks.specs.declared.view.MarksView.{MarksView}
-use Rattle.psac_marks.specs.Marked.{Place, own_place, shared_place, places, claims_of, handle_of, ways, rights_of, Grown, tree_of, Raising, marks_of, Stating, states_of, Has, HasOwn, Out, held_times, Tree, marks, Supported, Climbing, IsStated, AreStated, Meeting, Marked}
-use Rattle.psac_marks.specs.Steps.{Lacks, joined, met, spent}
-use Rattle.psac_marks.specs.Passes.{United}
 use Rattle.psac_marks.proofs.Parts.{here, place_own, place_shared, place_cases}
 use Rattle.psac_marks.proofs.Counted.{times_both}
 use Rattle.psac_marks.proofs.Keeps.{at_mapped}
@@ -41,9 +19,8 @@ changed b x y x' y' p (inr c) (inl d) = absurd (true≢false (sym p ∙ (ap (λ 
 changed b x y x' y' p (inr c) (inr d) = (λ i. is_prefix (c.2 i) (d.2 i)) ∙ prefix_refl b
 changed b x y x' y' p (inl c) (inr d) =
     let q : is_prefix x (b ++ d.0 ∷ []) ≡ true = ap (is_prefix x) (sym d.1) ∙ p in
-    let l = length-append b (d.0 ∷ []) in
     (λ i. is_prefix (c.0 i) (d.2 i)) ∙ ⊎_elim
-    (λ (s : length b < length x). let e = prefix_whole x (b ++ d.0 ∷ []) q (omega (arith, l, s)) in absurd (true≢false (sym (prefix_refl x) ∙ (ap (λ z. is_prefix z x) e ∙ c.1 d.0))))
+    (λ (s : length b < length x). let e = prefix_whole x (b ++ d.0 ∷ []) q (omega (arith, length-append b (d.0 ∷ []), s)) in absurd (true≢false (sym (prefix_refl x) ∙ (ap (λ z. is_prefix z x) e ∙ c.1 d.0))))
     (λ (s : length x ≤ length b). prefix_cut x b d.0 q s)
     (cases_lt (length b) (length x))
 
@@ -95,7 +72,6 @@ module _ (b : List Bool) (ps gs fs : List Place) (id other : ℕ) (two : other �
         let held : (x : ℕ) → held_times x after ≡ held_times x all = λ x.
         let a = sum_set (λ (k : Grown). slot_times x k.held) all id left_tree m at in let c = sum_set (λ (k : Grown). slot_times x k.held) mid other right_tree no_tree there in
         let d = sum_by-append (λ (y : Handle). cond (y.slot == x) 1 0) gh fh in omega (arith, a, c, d) in
-        let Held : Handle → Type 0 = λ x. (j : ℕ) × (k : Grown) × (get_elem? all j ≡ some k) × Member x k.held in
         let out : (x : Handle) → Out all x → Out after x = λ x o. ⊎_elim
         (λ (q : o.0 ≡ id). (id, m, mine, member_left x gh fh (subst (λ (k : Grown). Member x k.held) (some-injective o.1 left_tree (sym o.2 ∙ (ap (get_elem? all) q ∙ at))) o.3)))
         (λ n. ⊎_elim

@@ -1,26 +1,9 @@
 -- Leaves and loads keep the rule, and what each step allows.
-use Rattle.std.proofs.Common.{◌≡◌, ◌≢◌, ℕ, zero, suc, ◌+◌, ◌%◌, ◌^◌, ◌<◌, ◌≤◌, List, [], ◌∷◌, map, set, true, cond, refl, sym, ap, ◌∙◌, subst, ⊎_elim, arith, Option, Some, length-set}
-use Rattle.std.specs.Prelude.{sum_by, ◌==◌, slice_index}
-use Rattle.std.proofs.lemmas.List.Sums.{sum_by-cons}
-use Rattle.std.proofs.lemmas.List.{map-set, set-get_or}
-use Rattle.std.proofs.lemmas.Bool.{cases_eq, eq-eqb, ne_eqb}
-use mathlib.Core.Option.{some, some-ne-none, some-injective, none as vacant}
-use lib.ListN.{get_elem?}
-use Rattle.atomic_table.specs.Table.{State, Allows, keeps, step}
-use Rattle.atomic_table.proofs.Lists.{at_map, set_here, set_else, set_again}
-use Rattle.psac_ops.specs.declared.plain.Handle.{Handle}
+use Rattle.std.proofs.Common.{◌≡◌, ◌≢◌, ℕ, suc, ◌+◌, ◌%◌, ◌^◌, ◌<◌, ◌≤◌, List, [], ◌∷◌, map, set, true, cond, refl, sym, ap, ◌∙◌, subst, ⊎_elim, arith, Option, Some, length-set}
+use Rattle.psac_readers.proofs.Terms.{sum_by, ◌==◌, slice_index, sum_by-cons, map-set, set-get_or, cases_eq, eq-eqb, ne_eqb, some, none as vacant, get_elem?, State, Allows, keeps, step, at_map, set_here, set_else, set_again, sole_parts, tells, sum_set, all_set, Stage, Claimed, UnderWay, In, Dead, LinkView, ReadersView, Member, head_at, next_at, dead_at, node_at, Follows, in_set, is_dead, named, linked, alive, deads, Each, mods_of, claims_of, Staged, Knows, Placed, Tells, Readable, Has, Seat, drew, Drew, on_head, noded, Noded, swapped, Swapped, came, Came, die, left, Left, learned, front, IsSet, Began, Loaded, regained, Regained, rewound, Rewound}
 use Rattle.psac_slots.specs.Claiming as claiming
 use Rattle.psac_slots.specs.Handles as handles
-use Rattle.psac_slots.proofs.Acts.{sole_parts}
 use Rattle.psac_slots.proofs.Rewinds as turns
-use Rattle.psac_slots.proofs.Sums.{sum_set, all_set}
-use Rattle.psac_readers.specs.declared.view.Stage.{Stage}
-use Rattle.psac_readers.specs.declared.view.Stage.TheVariants.{Claimed, UnderWay, In, Dead}
-use Rattle.psac_readers.specs.declared.view.LinkView.{LinkView}
-use Rattle.psac_readers.specs.declared.view.ReadersView.{ReadersView}
-use Rattle.psac_slots.specs.Handles.{Member}
-use Rattle.psac_readers.specs.Chained.{head_at, next_at, dead_at, node_at, Follows, in_set, is_dead, named, linked, alive, deads, Each, mods_of, claims_of, Staged, Knows, Placed, Tells, Readable}
-use Rattle.psac_readers.specs.Steps.{Has, Seat, drew, Drew, on_head, noded, Noded, swapped, Swapped, came, Came, die, left, Left, learned, front, IsSet, Began, Loaded, regained, Regained, rewound, Rewound}
 use Rattle.psac_readers.proofs.Links.{each_imp, each_map, sum_map, sum_same, sum_plus, sum_under, only_here, linked_named, alive_deads, die_deads, die_linked, knows_set, knows_die, placed_die, is_there, mods_learn, seen_learn, front_is, behind_is, next_word, node_word, chain_is}
 use Rattle.psac_readers.proofs.Rewinding.{rewinds_at, regains_at, nothing_shared, holds_all, dead_alone}
 use Rattle.psac_readers.proofs.Keeps.{same_rights, same_claims, single, inside, here_once, others_stay, draws_at, own_store, low, swaps_at}
@@ -40,7 +23,6 @@ module _ (links mods : ℕ) (words : List ℕ) (views : List ReadersView) (h : R
       let w = left l v in
       let t = h.sets.tells id v at in
       let mine : 0 < sum_by (named l) v.links = let a = alive_here l in omega (arith, a, p) in
-      let low = inside links mods words views h id v at l mine in
       let know : (ks : List LinkView) → Each (Knows links mods words h.sets.next) ks → Each (Knows links mods (set words i 1) h.sets.next) ks =
       each_imp (Knows links mods words h.sets.next) (Knows links mods (set words i 1) h.sets.next) (λ k p. knows_set links mods words h.sets.next h.sets.next i 1 k (λ q. absurd (omega (arith, q))) (λ q. absurd (omega (arith, q))) refl p) in
       let linked_stay : (m x : ℕ) → sum_by (linked m x) w.links ≡ sum_by (linked m x) v.links = λ m x. sum_map (die l) (linked m x) v.links ∙ sum_same (λ k. linked m x (die l k)) (linked m x) (λ k. die_linked l m x k) v.links in
@@ -61,7 +43,7 @@ module _ (links mods : ℕ) (words : List ℕ) (views : List ReadersView) (h : R
           heads = λ m lt. let o = h.sets.heads m lt in (o.0, set_else words i (head_at links m) 1 (λ q. absurd (omega (arith, q, lt))) ∙ o.1, o.2);
           stored = λ x lt. let s = sum_set (λ (u : ReadersView). sum_by (deads x) u.links) views id v w at in let g = deads_grow x in ⊎_elim
               (λ (e : x ≡ l). subst (λ y. get_elem? (set words i 1) (dead_at links mods y) ≡ some (sum_by (λ (u : ReadersView). sum_by (deads y) u.links) (set views id w))) (sym e)
-              (set_here words i 1 (let a = h.sets.long in omega (arith, a, low)) ∙ ap some
+              (set_here words i 1 (let a = h.sets.long in omega (arith, a, inside links mods words views h id v at l mine)) ∙ ap some
               (let s' = sum_set (λ (u : ReadersView). sum_by (deads l) u.links) views id v w at in let g' = deads_grow l in let q = sum_same (λ k. cond (l == l) (alive l k) 0) (alive l) (λ k. ap (λ b. cond b (alive l k) 0) (eq-eqb l l refl)) v.links in
               let d = dead_here l mine in let a = alive_here l in let o = here_once links mods words views h id v at l in omega (arith, s', g', q, d, a, o, p))))
               (λ (n : x ≢ l). set_else words i (dead_at links mods x) 1 (λ q. n (omega (arith, q))) ∙ (h.sets.stored x lt ∙ ap some
@@ -171,8 +153,7 @@ module _ (links mods slots id : ℕ) (v : ReadersView) (hs : List (ℕ × Unit {
   pub swaps : (k : LinkView) (ks : List LinkView) (m i new : ℕ) → v.links ≡ k ∷ ks → k.stage ≡ Claimed → m < v.mods → Has m v → i ≡ head_at v.claims.count m → new ≡ suc k.link
       → Allows (λ (s : State (Unit {0}) ReadersView). Readable links mods s.words s.views) slots id (v, hs) i (λ _. new) (Swapped (step slots i new 0 vacant) (v, hs))
   swaps k ks m i new lv fresh small has is named s h sized at fits =
-      let c = count_is links mods s.words s.views h id v at live in
-      let z : i ≡ head_at links m = is ∙ ap (λ n. head_at n m) c in (
+      let z : i ≡ head_at links m = is ∙ ap (λ n. head_at n m) (count_is links mods s.words s.views h id v at live) in (
         swapped m (slice_index s.words i) v,
         keeps,
         tt,
@@ -215,8 +196,7 @@ module _ (links mods slots id : ℕ) (v : ReadersView) (hs : List (ℕ × Unit {
   pub begins : (m i : ℕ) → m < v.mods → Member m (mods_of v.walk) → i ≡ head_at v.claims.count m
       → Allows (λ (s : State (Unit {0}) ReadersView). Readable links mods s.words s.views) slots id (v, hs) i (λ n. n) (Began (step slots i 0 0 vacant) (v, hs))
   begins m i small has is s h sized at fits =
-      let c = count_is links mods s.words s.views h id v at live in
-      let z : i ≡ head_at links m = is ∙ ap (λ n. head_at n m) c in
+      let z : i ≡ head_at links m = is ∙ ap (λ n. head_at n m) (count_is links mods s.words s.views h id v at live) in
       let head = h.sets.heads m (let g = (h.sets.tells id v at).mods_is live in omega (arith, small, g)) in
       let ls = h.sets.chain m in
       let w = learned m ls v in
@@ -240,7 +220,9 @@ module _ (links mods slots id : ℕ) (v : ReadersView) (hs : List (ℕ × Unit {
       let c = count_is links mods s.words s.views h id v at live in
       let t = h.sets.tells id v at in
       let g = t.mods_is live in
-      let f = h.claims.each id v.claims (at_map claims_of s.views id v at) in (
+      let mine = at_map claims_of s.views id v at in
+      let f = h.claims.each id v.claims mine in
+      let old = tells links h.counter h.head h.list s.words (map claims_of s.views) h.claims id v.claims mine live i in (
         v,
         keeps,
         tt,
@@ -249,13 +231,9 @@ module _ (links mods slots id : ℕ) (v : ReadersView) (hs : List (ℕ × Unit {
           same = refl;
           once = λ l. here_once links mods s.words s.views h id v at l;
           low = λ l p. let a = inside links mods s.words s.views h id v at l p in omega (arith, a, c);
-          entry = λ k is x e.
-              let y : get_elem? h.list k ≡ some x = ap (λ l. get_elem? l k) (sym (f.list_is live)) ∙ e in
-              let z : i ≡ claiming.place links (h.head + k) = is ∙ (λ j. claiming.place (c j) (f.head_is live j + k)) in
-              (ap (slice_index s.words) z ∙ (is_there s.words (claiming.place links (h.head + k)) (handles.word_of x) (h.claims.stored k x y)).1, all_at h.list k x y h.claims.sized);
-          counter = λ k is e. let p = sole_parts v.claims.counter h.counter k v.claims e f.sole in ap (slice_index s.words) is ∙ ((is_there s.words 0 h.counter h.claims.counter_is).1 ∙ sym p.0);
-          whole = λ knows. let p = sole_parts v.claims.counter h.counter knows.0 v.claims knows.1 f.sole in
-              turns.accounted links h.counter h.head h.list s.words (map claims_of s.views) h.claims id v.claims (at_map claims_of s.views id v at) p.1 p.2 (knows.1 ∙ ap Some p.0);
+          entry = old.entry;
+          counter = old.counter;
+          whole = old.whole;
           holds = λ knows. let p = sole_parts v.claims.counter h.counter knows.0 v.claims knows.1 f.sole in holds_all links mods s.words s.views h id v at p.1 p.2;
           dead = λ l is p.
               let z : i ≡ dead_at links mods l = is ∙ (λ j. dead_at (c j) (g j) l) in
@@ -274,11 +252,6 @@ module _ (links mods slots id : ℕ) (v : ReadersView) (hs : List (ℕ × Unit {
               ap (slice_index s.words) z ∙ (is_there s.words (node_at links mods l) x (node_word links mods s.words h.sets.next l x v.links t.known e)).1;
         },
       )
-    where
-      all_at : (l : List Handle) (k : ℕ) (x : Handle) → get_elem? l k ≡ some x → Rattle.std.specs.Prelude.All handles.IsHandle l → handles.IsHandle x
-      all_at [] k x e a = absurd (some-ne-none x (sym e))
-      all_at (y ∷ l) zero x e a = subst handles.IsHandle (some-injective y x e) (a 0 y (omega arith))
-      all_at (y ∷ l) (suc k) x e a = all_at l k x e (λ j d b. a (suc j) d (omega arith))
 
   pub rewinds : claiming.IsSole v.claims → Allows (λ (s : State (Unit {0}) ReadersView). Readable links mods s.words s.views) slots id (v, hs) 0 (λ _. 0) (λ _. Rewound (step slots 0 0 0 vacant) (v, hs) 0)
   rewinds knows s h sized at fits =

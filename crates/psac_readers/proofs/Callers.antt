@@ -1,19 +1,6 @@
 -- What a caller needs of forks and joins.
 use Rattle.std.proofs.Common.{◌≡◌, ℕ, ◌≤◌, List, [], ◌∷◌, ◌++◌, map, length, Bool, true, false, refl, ap, ◌∙◌, subst, inr, arith, Result, Ok, Err}
-use Rattle.std.specs.Prelude.{filter, not, IfOk, IfErr}
-use Rattle.std.proofs.lemmas.Bool.{le-ltb}
-use Rattle.psac_slots.specs.declared.full.Full.{Full}
-use Rattle.psac_slots.specs.Branches.{stem}
-use Rattle.psac_slots.proofs.Turns.{stem_push}
-use Rattle.psac_readers.specs.declared.view.WalkView.{WalkView}
-use Rattle.psac_readers.specs.declared.view.SharedView.{SharedView}
-use Rattle.psac_readers.specs.declared.view.ReadersView.{ReadersView}
-use Rattle.psac_readers.specs.declared.readers.Link.{Link}
-use Rattle.psac_slots.specs.Handles.{Member}
-use Rattle.psac_slots.specs.Divided.{comes_back as returns}
-use Rattle.psac_readers.specs.Chained.{mods_of, ways}
-use Rattle.psac_readers.specs.Steps.{Has, left_of, right_of, joined, unknown, drew, Entered}
-use Rattle.psac_slots.proofs.Pairs.{member_right, map_member, filter_member}
+use Rattle.psac_readers.proofs.Terms.{filter, not, IfOk, IfErr, le-ltb, Full, stem, stem_push, WalkView, SharedView, ReadersView, Link, Member, comes_back as returns, mods_of, ways, Has, left_of, right_of, joined, unknown, drew, Entered, member_right, map_member, filter_member}
 use Rattle.psac_readers.proofs.Sides.{in_told}
 
 module _ (f g : ℕ → Bool) (v : ReadersView) (m : ℕ) (mine : Member m (mods_of v.walk)) where

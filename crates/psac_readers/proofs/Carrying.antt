@@ -1,17 +1,7 @@
 -- What passes carry over forks, joins and leaves.
-use Rattle.std.proofs.Common.{◌≡◌, ◌⊎◌, ℕ, ◌+◌, ◌-◌, ◌<◌, List, [], ◌∷◌, length, take, Bool, true, false, cond, refl, ap, subst, inl, inr, ⊎_elim, arith, Some}
-use Rattle.std.specs.Prelude.{sum_by, not, ◌==◌}
-use Rattle.std.proofs.lemmas.List.Sums.{sum_by-cons}
-use Rattle.std.proofs.lemmas.Bool.{eq-eqb, eqb-true, cases_lt}
-use Rattle.psac_readers.specs.declared.view.Stage.{Stage}
-use Rattle.psac_readers.specs.declared.view.Stage.TheVariants.{Claimed, UnderWay, In, Dead}
-use Rattle.psac_readers.specs.declared.view.LinkView.{LinkView}
-use Rattle.psac_readers.specs.declared.view.ReadersView.{ReadersView}
-use Rattle.psac_readers.specs.Chained.{named, alive, is_live, Each}
+use Rattle.std.proofs.Common.{◌≡◌, ◌⊎◌, ℕ, ◌+◌, ◌-◌, ◌<◌, List, [], ◌∷◌, length, take, Bool, true, false, cond, refl, sym, ap, ◌∙◌, subst, inl, inr, ⊎_elim, arith, Some}
+use Rattle.psac_readers.proofs.Terms.{sum_by, not, ◌==◌, sum_by-cons, eq-eqb, eqb-true, Stage, Claimed, UnderWay, In, Dead, LinkView, ReadersView, named, alive, is_live, Each, rest_is, regained, rewound, Fine, is_settled, die, dying, left, learned, left_of, right_of, joined, right_link, Carries}
 use Rattle.psac_slots.specs.Claiming as claiming
-use Rattle.psac_slots.proofs.Rewinds.{parts, turned_low}
-use Rattle.psac_readers.specs.Steps.{regained, rewound, Fine, is_settled, die, dying, left, learned, left_of, right_of, joined, right_link}
-use Rattle.psac_readers.specs.Passes.{Carries}
 use Rattle.psac_readers.proofs.Links.{each_append, each_filter, each_map, each_imp}
 
 settled_die : (s : Stage) (b : Bool) → is_settled s ≡ 1 → is_settled (cond b (dying s) s) ≡ 1
@@ -22,61 +12,35 @@ settled_die Dead true e = refl
 settled_die s false e = e
 
 module _ (links mods head room words : ℕ) (v : ReadersView) (c : Carries links mods head room words v) where
-  pub carries_dead : (l : ℕ) → Carries links mods head room words (left l v)
-  carries_dead l = record {
-    live = c.live;
-    links_is = c.links_is;
-    mods_is = c.mods_is;
-    head_is = c.head_is;
-    room_is = c.room_is;
+  -- the same ring and the same sizes
+  renewed : (w : ReadersView) → w.claims.live ≡ v.claims.live → w.claims.count ≡ v.claims.count → w.mods ≡ v.mods → w.claims.head ≡ v.claims.head → w.claims.list ≡ v.claims.list → Each (Fine links) w.links
+      → Carries links mods head room words w
+  renewed w a b d e f fine = record {
+    live = a ∙ c.live;
+    links_is = b ∙ c.links_is;
+    mods_is = d ∙ c.mods_is;
+    head_is = e ∙ c.head_is;
+    room_is = ap length f ∙ c.room_is;
     room_fits = c.room_fits;
     head_fits = c.head_fits;
     words_is = c.words_is;
     small = c.small;
-    fine = each_map (Fine links) (Fine links) (die l) (λ k f. record { low = f.low; settled = settled_die k.stage (k.link == l) f.settled; node = f.node }) v.links c.fine;
+    fine = fine;
   }
+
+  pub carries_dead : (l : ℕ) → Carries links mods head room words (left l v)
+  carries_dead l = renewed (left l v) refl refl refl refl refl
+      (each_map (Fine links) (Fine links) (die l) (λ k f. record { low = f.low; settled = settled_die k.stage (k.link == l) f.settled; node = f.node }) v.links c.fine)
 
   pub carries_left : (f g h : ℕ → Bool) → Carries links mods head room words (left_of f g h v)
-  carries_left f g h = record {
-    live = c.live;
-    links_is = c.links_is;
-    mods_is = c.mods_is;
-    head_is = c.head_is;
-    room_is = c.room_is;
-    room_fits = c.room_fits;
-    head_fits = c.head_fits;
-    words_is = c.words_is;
-    small = c.small;
-    fine = each_filter (Fine links) (λ k. not (right_link f g h k)) v.links c.fine;
-  }
+  carries_left f g h = renewed (left_of f g h v) refl refl refl refl refl (each_filter (Fine links) (λ k. not (right_link f g h k)) v.links c.fine)
 
   pub carries_right : (f g h : ℕ → Bool) → Carries links mods head room words (right_of f g h v)
-  carries_right f g h = record {
-    live = refl;
-    links_is = c.links_is;
-    mods_is = c.mods_is;
-    head_is = c.head_is;
-    room_is = c.room_is;
-    room_fits = c.room_fits;
-    head_fits = c.head_fits;
-    words_is = c.words_is;
-    small = c.small;
-    fine = each_filter (Fine links) (right_link f g h) v.links c.fine;
-  }
+  carries_right f g h = renewed (right_of f g h v) (sym c.live) refl refl refl refl (each_filter (Fine links) (right_link f g h) v.links c.fine)
 
   pub carries_joined : (n m o p q : ℕ) (w : ReadersView) → Carries n m o p q w → ((l : ℕ) → 0 < sum_by (named l) (joined v w).links → l < links) → Carries links mods head room words (joined v w)
-  carries_joined n m o p q w d low = record {
-    live = c.live;
-    links_is = c.links_is;
-    mods_is = c.mods_is;
-    head_is = c.head_is;
-    room_is = c.room_is;
-    room_fits = c.room_fits;
-    head_fits = c.head_fits;
-    words_is = c.words_is;
-    small = c.small;
-    fine = each_low (joined v w).links low (each_append Rest v.links w.links (each_imp (Fine links) Rest (λ k f. (f.settled, f.node)) v.links c.fine) (each_imp (Fine n) Rest (λ k f. (f.settled, f.node)) w.links d.fine));
-  }
+  carries_joined n m o p q w d low = renewed (joined v w) refl refl refl refl refl
+      (each_low (joined v w).links low (each_append Rest v.links w.links (each_imp (Fine links) Rest (λ k f. (f.settled, f.node)) v.links c.fine) (each_imp (Fine n) Rest (λ k f. (f.settled, f.node)) w.links d.fine)))
     where
       Rest : LinkView → Type 0
       Rest k = (is_settled k.stage ≡ 1) × ((x : ℕ) × (k.node ≡ Some x))
@@ -90,33 +54,22 @@ module _ (links mods head room words : ℕ) (v : ReadersView) (c : Carries links
           )
 
   pub carries_regained : (n : ℕ) → Carries links mods head room words (regained n v)
-  carries_regained n = record {
-    live = c.live;
-    links_is = c.links_is;
-    mods_is = c.mods_is;
-    head_is = c.head_is;
-    room_is = c.room_is;
-    room_fits = c.room_fits;
-    head_fits = c.head_fits;
-    words_is = c.words_is;
-    small = c.small;
-    fine = c.fine;
-  }
+  carries_regained n = renewed (regained n v) refl refl refl refl refl c.fine
+
+  pub carries_learned : (m : ℕ) (ls : List ℕ) → Carries links mods head room words (learned m ls v)
+  carries_learned m ls = renewed (learned m ls v) refl refl refl refl refl c.fine
 
   pub carries_rewound : (gone : ℕ) → length (take (claiming.counted v.claims.counter) v.claims.list) ≡ gone → Carries links mods (claiming.turned links (head + gone)) (room - gone) words (rewound v)
   carries_rewound gone e =
-      let a = parts (claiming.counted v.claims.counter) v.claims.list in
-      let b = c.room_is in
-      let d = c.room_fits in
-      let f = c.head_fits in
+      let rest = rest_is v.claims links head room gone c.room_is c.room_fits c.head_fits e in
       record {
         live = c.live;
         links_is = c.links_is;
         mods_is = c.mods_is;
         head_is = λ i. claiming.turned (c.links_is i) (c.head_is i + e i);
-        room_is = omega (arith, a, b, e);
-        room_fits = omega (arith, d);
-        head_fits = turned_low links (head + gone) (omega (arith, a, b, d, f, e)) (cases_lt (head + gone) links);
+        room_is = rest.0;
+        room_fits = rest.1;
+        head_fits = rest.3;
         words_is = c.words_is;
         small = c.small;
         fine = c.fine;
@@ -133,17 +86,3 @@ module _ (links mods head room words : ℕ) (v : ReadersView) (c : Carries links
       by : (ks : List LinkView) → Each (Fine links) ks → 0 < sum_by (alive l) ks → l < links
       by [] f p = absurd (omega (arith, p))
       by (k ∷ ks) f p = ⊎_elim (λ (z : alive l k ≡ 0). by ks f.1 (let s = sum_by-cons (alive l) k ks in omega (arith, s, p, z))) (λ q. q) (one k (k.link == l) refl f.0)
-
-pub carries_learned : (links mods head room words m : ℕ) (ls : List ℕ) (v : ReadersView) → Carries links mods head room words v → Carries links mods head room words (learned m ls v)
-carries_learned links mods head room words m ls v c = record {
-  live = c.live;
-  links_is = c.links_is;
-  mods_is = c.mods_is;
-  head_is = c.head_is;
-  room_is = c.room_is;
-  room_fits = c.room_fits;
-  head_fits = c.head_fits;
-  words_is = c.words_is;
-  small = c.small;
-  fine = c.fine;
-}

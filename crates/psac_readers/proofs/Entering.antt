@@ -1,20 +1,7 @@
 -- The views on the way of an enter.
 use Rattle.std.proofs.Common.{◌≡◌, ℕ, suc, ◌+◌, ◌/◌, ◌%◌, ◌<◌, List, [], ◌∷◌, ◌++◌, map, length, cond, refl, sym, ap, ◌∙◌, arith, subst, inl, inr, ⊎_elim}
-use Rattle.std.specs.Prelude.{sum_by}
-use Rattle.std.proofs.lemmas.List.Sums.{sum_by-cons}
-use Rattle.std.proofs.lemmas.Bool.{eq-eqb}
-use mathlib.Core.Option.{none as vacant}
-use lib.ListN.{get_elem?}
-use Rattle.atomic_table.specs.Table.{step}
-use Rattle.psac_ops.specs.declared.plain.Handle.{Handle}
+use Rattle.psac_readers.proofs.Terms.{sum_by, sum_by-cons, eq-eqb, none as vacant, get_elem?, step, Handle, claimed_entry, LinkView, ReadersView, named, mods_of, Seat, new_link, drew, on_head, noded, swapped, came, entered, Loaded, Has, Carries, Member}
 use Rattle.psac_slots.specs.Claiming as claiming
-use Rattle.psac_slots.proofs.Removed.{claimed_entry}
-use Rattle.psac_readers.specs.declared.view.LinkView.{LinkView}
-use Rattle.psac_readers.specs.declared.view.ReadersView.{ReadersView}
-use Rattle.psac_readers.specs.Chained.{named, mods_of}
-use Rattle.psac_readers.specs.Steps.{Seat, new_link, drew, on_head, noded, swapped, came, entered, Loaded, Has}
-use Rattle.psac_readers.specs.Passes.{Carries}
-use Rattle.psac_slots.specs.Handles.{Member}
 use Rattle.psac_readers.proofs.Links.{mods_forget}
 
 -- the handle of a word

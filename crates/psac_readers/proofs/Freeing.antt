@@ -1,16 +1,8 @@
 -- What the steps of a sole pass that takes links off allow.
 use Rattle.std.proofs.Common.{◌≡◌, ℕ, suc, ◌+◌, ◌<◌, List, ◌∷◌, ◌++◌, length, set, true, sym, ap, ◌∙◌, subst, arith, Some}
-use Rattle.std.specs.Prelude.{sum_by, slice_index}
-use mathlib.Core.Option.{none as vacant}
-use Rattle.atomic_table.specs.Table.{State, Allows, keeps, step}
-use Rattle.atomic_table.proofs.Lists.{at_map}
+use Rattle.psac_readers.proofs.Terms.{sum_by, slice_index, none as vacant, State, Allows, keeps, step, at_map, Member, sole_parts, ReadersView, head_at, dead_at, named, alive, Each, mods_of, claims_of, Readable, revived, Revived, unlinked, Unlinked, freed, Freed, led_from, chain_of, front, Fine}
 use Rattle.psac_slots.specs.Handles as handles
-use Rattle.psac_slots.specs.Handles.{Member}
 use Rattle.psac_slots.specs.Claiming as claiming
-use Rattle.psac_slots.proofs.Acts.{sole_parts}
-use Rattle.psac_readers.specs.declared.view.ReadersView.{ReadersView}
-use Rattle.psac_readers.specs.Chained.{head_at, dead_at, named, alive, Each, mods_of, claims_of, Readable}
-use Rattle.psac_readers.specs.Steps.{revived, Revived, unlinked, Unlinked, freed, Freed, led_from, chain_of, front, Fine}
 use Rattle.psac_readers.proofs.Links.{is_there, chain_is}
 use Rattle.psac_readers.proofs.Acts.{count_is}
 use Rattle.psac_readers.proofs.Taking.{revives_at, stands, holds, frees_at}

@@ -1,18 +1,8 @@
 -- The views on the way of a link that is given back.
 use Rattle.std.proofs.Common.{◌≡◌, ℕ, ◌+◌, ◌<◌, List, [], ◌∷◌, ◌++◌, map, length, Bool, true, false, cond, refl, ap, ◌∙◌, ⊎_elim, arith, length-append}
-use Rattle.std.specs.Prelude.{sum_by, filter, not, ◌==◌}
-use Rattle.std.proofs.lemmas.List.Sums.{sum_by-cons}
-use Rattle.psac_ops.specs.declared.plain.Handle.{Handle}
+use Rattle.psac_readers.proofs.Terms.{sum_by, filter, not, ◌==◌, sum_by-cons, Handle, has_room, accounted_returned, Stage, Claimed, UnderWay, In, Dead, LinkView, ReadersView, head_at, times, in_set, is_live, named, alive, Each, reviving, revive, revived, leaving, take_off, lose, unlinked, other_link, freed, swept_one, is_settled, Fine, led_from, IsSet, Carries}
 use Rattle.psac_slots.specs.Handles as handles
 use Rattle.psac_slots.specs.Claiming as claiming
-use Rattle.psac_slots.proofs.Carrying.{has_room, accounted_returned}
-use Rattle.psac_readers.specs.declared.view.Stage.{Stage}
-use Rattle.psac_readers.specs.declared.view.Stage.TheVariants.{Claimed, UnderWay, In, Dead}
-use Rattle.psac_readers.specs.declared.view.LinkView.{LinkView}
-use Rattle.psac_readers.specs.declared.view.ReadersView.{ReadersView}
-use Rattle.psac_readers.specs.Chained.{head_at, times, in_set, is_live, named, alive, Each}
-use Rattle.psac_readers.specs.Steps.{reviving, revive, revived, leaving, take_off, lose, unlinked, other_link, freed, swept_one, is_settled, Fine, led_from, IsSet}
-use Rattle.psac_readers.specs.Passes.{Carries}
 use Rattle.psac_readers.proofs.Links.{each_map, each_filter, sum_map}
 use Rattle.psac_readers.proofs.Taking.{stands}
 use Rattle.psac_readers.proofs.Unlinking.{one_if, times_append, snoc, led_last}
@@ -76,14 +66,13 @@ room_after l v has a = let h : Handle = record { slot = l; generation = 1 } in (
 
 pub carries_swept : (links mods head room words l : ℕ) (v : ReadersView) → Carries links mods head room words v → length v.claims.list < v.claims.count → Carries links mods head (room + 1) words (swept_one l v)
 carries_swept links mods head room words l v c less =
-    let b = length-append v.claims.list (record { slot = l; generation = 1 } ∷ []) in
     let r = c.room_is in
     let k = c.links_is in record {
       live = c.live;
       links_is = c.links_is;
       mods_is = c.mods_is;
       head_is = c.head_is;
-      room_is = omega (arith, b, r);
+      room_is = omega (arith, length-append v.claims.list (record { slot = l; generation = 1 } ∷ []), r);
       room_fits = omega (arith, r, k, less);
       head_fits = c.head_fits;
       words_is = c.words_is;
@@ -101,9 +90,6 @@ led_low links mods head room words v c m l a b small set =
     (λ (q : (y : List ℕ) × (p : ℕ) × (a ≡ y ++ p ∷ [])).
     let e = ap (led_from v.claims.count v.mods (head_at v.claims.count m)) q.2 ∙ led_last v.claims.count v.mods (head_at v.claims.count m) q.1 q.0 in
     let t = ap (λ (x : List ℕ). times q.1 (x ++ l ∷ b)) q.2 ∙ (times_append q.1 (q.0 ++ q.1 ∷ []) (l ∷ b)) in
-    let u = times_append q.1 q.0 (q.1 ∷ []) in
-    let one = one_if q.1 q.1 refl in
-    let on : 0 < times q.1 (a ++ l ∷ b) = omega (arith, t, u, one) in
-    let low = named_low links q.1 v.links c.fine (chain_named v m q.1 (a ++ l ∷ b) set on) in
-    omega (arith, e, li, mi, z, low))
+    let on : 0 < times q.1 (a ++ l ∷ b) = omega (arith, t, times_append q.1 q.0 (q.1 ∷ []), one_if q.1 q.1 refl) in
+    omega (arith, e, li, mi, z, named_low links q.1 v.links c.fine (chain_named v m q.1 (a ++ l ∷ b) set on)))
     (snoc a)

@@ -1,28 +1,9 @@
 -- Each step of an enter keeps the rule.
 use Rattle.std.proofs.Common.{◌≡◌, ◌≢◌, ◌⊎◌, ℕ, zero, suc, ◌+◌, ◌%◌, ◌^◌, ◌<◌, ◌≤◌, List, [], ◌∷◌, map, length, set, Bool, true, false, true≢false, cond, ltb, refl, sym, ap, ◌∙◌, subst, inl, inr, ⊎_elim, arith, Option, Some, None, length-set}
-use Rattle.std.specs.Prelude.{sum_by, ◌==◌, slice_index}
-use Rattle.std.proofs.lemmas.List.Sums.{sum_by-cons, sum_by-append}
-use Rattle.std.proofs.lemmas.List.{map-set}
-use Rattle.std.proofs.lemmas.Bool.{cases_eq, eq-eqb, eqb-true, ne_eqb}
-use mathlib.Core.Option.{some, some-ne-none, some-injective}
-use lib.ListN.{get_elem?}
-use Rattle.atomic_table.proofs.Lists.{at_map, set_here, set_else, set_again}
-use Rattle.psac_slots.specs.declared.view.ClaimView.{ClaimView}
-use Rattle.psac_ops.specs.declared.plain.Handle.{Handle}
+use Rattle.psac_readers.proofs.Terms.{sum_by, ◌==◌, slice_index, sum_by-cons, sum_by-append, map-set, cases_eq, eq-eqb, ne_eqb, some, some-ne-none, some-injective, get_elem?, at_map, set_here, set_else, set_again, ClaimView, Handle, sum_set, sum_at, sum_two, all_set, Claimed, LinkView, WalkView, SharedView, ReadersView, Member, Divided, at_most_once, head_at, next_at, dead_at, node_at, Follows, in_set, is_dead, named, linked, deads, times, Each, mods_of, claims_of, rights_of, ways, Knows, Placed, Seen, Tells, Readable, Has, new_link, drew, on_head, forget, way, swapped}
 use Rattle.psac_slots.specs.Claiming as claiming
 use Rattle.psac_slots.specs.Handles as handles
 use Rattle.psac_slots.proofs.Keeps as laws
-use Rattle.psac_slots.proofs.Sums.{sum_set, sum_at, sum_two, all_set}
-use Rattle.psac_readers.specs.declared.view.Stage.TheVariants.{Claimed}
-use Rattle.psac_readers.specs.declared.view.LinkView.{LinkView}
-use Rattle.psac_readers.specs.declared.view.WalkView.{WalkView}
-use Rattle.psac_readers.specs.declared.view.SharedView.{SharedView}
-use Rattle.psac_readers.specs.declared.view.ReadersView.{ReadersView}
-use Rattle.psac_slots.specs.Handles.{Member}
-use Rattle.psac_slots.specs.Divided.{Divided}
-use Rattle.psac_slots.proofs.Removed.{at_most_once}
-use Rattle.psac_readers.specs.Chained.{head_at, next_at, dead_at, node_at, Follows, in_set, is_dead, named, linked, deads, times, Each, mods_of, claims_of, rights_of, ways, Knows, Placed, Seen, Tells, Readable}
-use Rattle.psac_readers.specs.Steps.{Has, new_link, drew, on_head, forget, way, swapped}
 use Rattle.psac_readers.proofs.Links.{each_imp, each_append, each_tail, sum_under, sum_map, new_named, new_linked, new_deads, linked_named, follows_else, each_named, knows_set, is_there, mods_forget}
 
 once_or : (k n : ℕ) → 0 < handles.once_below k n → k < n

@@ -1,23 +1,8 @@
 -- What the rule of reader sets gives.
 use Rattle.std.proofs.Common.{◌≡◌, ◌≢◌, ℕ, ◌≤◌, List, [], ◌∷◌, map, sym, ap, ◌∙◌, subst, ⊎_elim, arith}
-use Rattle.std.specs.Prelude.{sum_by}
-use Rattle.std.proofs.lemmas.Bool.{cases_eq}
-use mathlib.Core.Option.{some, some-injective}
-use lib.ListN.{get_elem?}
-use Rattle.atomic_table.proofs.Lists.{at_map}
-use Rattle.psac_slots.specs.declared.view.ClaimView.{ClaimView}
+use Rattle.psac_readers.proofs.Terms.{sum_by, cases_eq, some, some-injective, get_elem?, at_map, ClaimView, Member, at_most_once, sum_at, sum_two, Stage, Claimed, UnderWay, In, Dead, LinkView, ReadersView, next_at, named, linked, deads, Each, claims_of, rights_of, Staged, Readable, is_settled, Promised}
 use Rattle.psac_slots.specs.Handles as handles
-use Rattle.psac_slots.specs.Handles.{Member}
 use Rattle.psac_slots.proofs.Kept as slots
-use Rattle.psac_slots.proofs.Removed.{at_most_once}
-use Rattle.psac_slots.proofs.Sums.{sum_at, sum_two}
-use Rattle.psac_readers.specs.declared.view.Stage.{Stage}
-use Rattle.psac_readers.specs.declared.view.Stage.TheVariants.{Claimed, UnderWay, In, Dead}
-use Rattle.psac_readers.specs.declared.view.LinkView.{LinkView}
-use Rattle.psac_readers.specs.declared.view.ReadersView.{ReadersView}
-use Rattle.psac_readers.specs.Chained.{next_at, named, linked, deads, Each, claims_of, rights_of, Staged, Readable}
-use Rattle.psac_readers.specs.Steps.{is_settled}
-use Rattle.psac_readers.specs.Promised.{Promised}
 use Rattle.psac_readers.proofs.Links.{sum_map, sum_under, linked_named, alive_deads}
 
 each_member : {A : Type 0} (P : A → Type 0) (x : A) (xs : List A) → Each P xs → Member x xs → P x
@@ -40,10 +25,8 @@ promised links mods words views h =
       claims = slots.promised links h.counter h.head h.list words (map claims_of views) h.claims;
       free_unlinked = λ i v l e f.
           let a = sum_at (λ (u : ReadersView). sum_by (named l) u.links) views i v e in
-          let b = h.sets.owed l in
-          let d = sum_map claims_of (λ (c : ClaimView). handles.slot_times l c.held) views in
           let n = slots.unheld words (map claims_of views) (slots.promised links h.counter h.head h.list words (map claims_of views) h.claims) l f in
-          omega (arith, a, b, d, n);
+          omega (arith, a, h.sets.owed l, sum_map claims_of (λ (c : ClaimView). handles.slot_times l c.held) views, n);
       next = h.sets.next;
       chain = h.sets.chain;
       stored_next = λ i v k e m s. settled_next links mods words h.sets.next k.link k.stage s (each_member _ k v.links (h.sets.tells i v e).known m).0;

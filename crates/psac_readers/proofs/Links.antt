@@ -1,22 +1,7 @@
 -- Lists of links, and chains.
 use Rattle.std.proofs.Common.{◌≡◌, ◌≢◌, ◌⊎◌, ℕ, zero, suc, ◌+◌, ◌<◌, ◌≤◌, List, [], ◌∷◌, ◌++◌, map, length, set, Bool, true, false, cond, refl, sym, ap, ◌∙◌, subst, inl, inr, ⊎_elim, arith, Option, Some}
-use Rattle.std.specs.Prelude.{sum_by, filter, not, ◌==◌, slice_index}
-use Rattle.std.proofs.lemmas.List.Sums.{sum_by-cons}
-use Rattle.std.proofs.lemmas.Bool.{eq-eqb, eqb-true, ne_eqb, cases_eq}
-use mathlib.Core.Option.{some, some-ne-none, some-injective}
-use lib.ListN.{get_elem?}
-use Rattle.atomic_table.proofs.Lists.{set_else}
-use Rattle.psac_ops.specs.declared.plain.Handle.{Handle}
+use Rattle.psac_readers.proofs.Terms.{sum_by, filter, not, ◌==◌, slice_index, sum_by-cons, eq-eqb, eqb-true, ne_eqb, cases_eq, some, some-ne-none, some-injective, get_elem?, set_else, Handle, sum_le, sum_two, Stage, Claimed, UnderWay, In, Dead, LinkView, WalkView, SharedView, Follows, in_set, is_live, is_dead, named, linked, alive, deads, times, Each, mods_of, next_at, node_at, Staged, Knows, Placed, Seen, new_link, forget, die, dying, learn, front, behind, settled, is_settled, node_in, chain_of}
 use Rattle.psac_slots.specs.Handles as handles
-use Rattle.psac_slots.proofs.Sums.{sum_le, sum_two}
-use Rattle.psac_readers.specs.declared.view.Stage.{Stage}
-use Rattle.psac_readers.specs.declared.view.Stage.TheVariants.{Claimed, UnderWay, In, Dead}
-use Rattle.psac_readers.specs.declared.view.LinkView.{LinkView}
-use Rattle.psac_readers.specs.declared.view.WalkView.{WalkView}
-use Rattle.psac_readers.specs.declared.view.SharedView.{SharedView}
-use Rattle.psac_slots.specs.Handles.{Member}
-use Rattle.psac_readers.specs.Chained.{Follows, in_set, is_live, is_dead, named, linked, alive, deads, times, Each, mods_of, next_at, node_at, Staged, Knows, Placed, Seen}
-use Rattle.psac_readers.specs.Steps.{new_link, forget, die, dying, learn, front, behind, settled, is_settled, node_in, chain_of}
 
 module _ {A : Type 0} where
   pub each_imp : (P Q : A → Type 0) → ((x : A) → P x → Q x) → (xs : List A) → Each P xs → Each Q xs

@@ -1,16 +1,8 @@
 -- The first words and the first view meet the rule.
 use Rattle.std.proofs.Common.{◌≡◌, ◌⊎◌, ℕ, zero, suc, ◌+◌, ◌*◌, ◌<◌, ◌≤◌, List, [], ◌∷◌, ◌++◌, map, length, true, false, true≢false, refl, sym, ap, ◌∙◌, subst, inl, inr, ⊎_elim, arith, Option, Some, length-append}
-use Rattle.std.proofs.lemmas.List.{length-map}
-use mathlib.Core.Option.{some, some-ne-none, some-injective}
-use lib.ListN.{get_elem?}
-use Rattle.atomic_table.proofs.Lists.{at_longer, at_last}
+use Rattle.psac_readers.proofs.Terms.{length-map, some, some-ne-none, some-injective, get_elem?, at_longer, at_last, length-fresh, Own, Each, Seen, Tells, Readable, rights_of, ways, dead_at, first_walk, first_view, zeros, first_words, Carries}
 use Rattle.psac_slots.specs.Handles as handles
 use Rattle.psac_slots.proofs.Opens as laws
-use Rattle.psac_slots.proofs.Removed.{length-fresh}
-use Rattle.psac_slots.specs.Divided.{Own}
-use Rattle.psac_readers.specs.Chained.{Each, Seen, Tells, Readable, rights_of, ways, dead_at}
-use Rattle.psac_readers.specs.Steps.{first_walk, first_view, zeros, first_words}
-use Rattle.psac_readers.specs.Passes.{Carries}
 use Rattle.psac_readers.proofs.Links.{each_append}
 
 only : {A : Type 0} (x : A) (id : ℕ) (v : A) → get_elem? (x ∷ []) id ≡ some v → (id ≡ 0) × (x ≡ v)

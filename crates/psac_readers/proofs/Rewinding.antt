@@ -1,23 +1,9 @@
 -- A sole pass sets the counter back.
 use Rattle.std.proofs.Common.{◌≡◌, ℕ, ◌+◌, ◌≤◌, List, [], ◌∷◌, map, set, take, drop, length, inl, true, refl, sym, ap, ◌∙◌, subst, arith, Some, length-set}
-use Rattle.std.specs.Prelude.{sum_by}
-use Rattle.std.proofs.lemmas.List.{map-set}
-use mathlib.Core.Option.{some}
-use lib.ListN.{get_elem?}
-use Rattle.atomic_table.proofs.Lists.{at_map, set_else, set_again}
-use Rattle.psac_slots.specs.declared.view.ClaimView.{ClaimView}
+use Rattle.psac_readers.proofs.Terms.{sum_by, map-set, some, get_elem?, at_map, set_else, set_again, ClaimView, sum_set, sum_at, sum_none, all_set, LinkView, ReadersView, Handle, Member, WalkView, SharedView, head_at, dead_at, named, linked, deads, times, Each, mods_of, claims_of, rights_of, Knows, Placed, Seen, Tells, Readable, spent, rewound, regained, Holds}
 use Rattle.psac_slots.specs.Claiming as claiming
 use Rattle.psac_slots.specs.Handles as handles
 use Rattle.psac_slots.proofs.Rewinds as turns
-use Rattle.psac_slots.proofs.Sums.{sum_set, sum_at, sum_none, all_set}
-use Rattle.psac_readers.specs.declared.view.LinkView.{LinkView}
-use Rattle.psac_readers.specs.declared.view.ReadersView.{ReadersView}
-use Rattle.psac_ops.specs.declared.plain.Handle.{Handle}
-use Rattle.psac_slots.specs.Handles.{Member}
-use Rattle.psac_readers.specs.declared.view.WalkView.{WalkView}
-use Rattle.psac_readers.specs.declared.view.SharedView.{SharedView}
-use Rattle.psac_readers.specs.Chained.{head_at, dead_at, named, linked, deads, times, Each, mods_of, claims_of, rights_of, Knows, Placed, Seen, Tells, Readable}
-use Rattle.psac_readers.specs.Steps.{spent, rewound, regained, Holds}
 use Rattle.psac_readers.proofs.Links.{each_imp, knows_set, sum_map}
 use Rattle.psac_readers.proofs.Keeps.{same_rights, others_stay}
 
@@ -44,9 +30,7 @@ module _ (links mods : ℕ) (words : List ℕ) (views : List ReadersView) (h : R
         let b = sum_none f (set views id spent) (all_set (λ _ (u : ReadersView). f u ≡ 0) views id spent refl
         (λ j u n e. ap (sum_by (named l)) ((h.sets.tells j u e).gone (turns.alone links h.counter h.head h.list words (map claims_of views) h.claims id v.claims mine live empty j u.claims n (at_map claims_of views j u e))))) in
         let c = turns.alone_sum links h.counter h.head h.list words (map claims_of views) h.claims id v.claims mine live empty (λ (u : ClaimView). handles.slot_times l u.held) refl (λ u _ d. ap (handles.slot_times l) d) in
-        let d = sum_map claims_of (λ (u : ClaimView). handles.slot_times l u.held) views in
-        let o = h.sets.owed l in
-        omega (arith, a, b, c, d, o);
+        omega (arith, a, b, c, sum_map claims_of (λ (u : ClaimView). handles.slot_times l u.held) views, h.sets.owed l);
     inside = λ m l far. none_beyond m l (let g = (h.sets.tells id v at).mods_is live in omega (arith, g, far));
   }
 
@@ -55,10 +39,9 @@ module _ (links mods : ℕ) (words : List ℕ) (views : List ReadersView) (h : R
   dead_alone live empty l =
       let f : ReadersView → ℕ = λ u. sum_by (deads l) u.links in
       let mine = at_map claims_of views id v at in
-      let a = sum_set f views id v spent at in
       let b = sum_none f (set views id spent) (all_set (λ _ (u : ReadersView). f u ≡ 0) views id spent refl
       (λ j u n e. ap (sum_by (deads l)) ((h.sets.tells j u e).gone (turns.alone links h.counter h.head h.list words (map claims_of views) h.claims id v.claims mine live empty j u.claims n (at_map claims_of views j u e))))) in
-      omega (arith, a, b)
+      omega (arith, sum_set f views id v spent at, b)
 
   -- one view changes in its claims alone, which hold the same, and one of the words below the sets
   low_store : (w : ReadersView) (i x d front : ℕ) (list : List Handle) → i ≤ links → w.mods ≡ v.mods → w.walk ≡ v.walk → w.shared ≡ v.shared → w.links ≡ v.links → w.claims.live ≡ v.claims.live → w.claims.branch ≡ v.claims.branch → w.claims.held ≡ v.claims.held

@@ -1,31 +1,9 @@
 -- Splits and joins keep the rule.
 use Rattle.std.proofs.Common.{◌≡◌, ◌≢◌, ◌⊎◌, ℕ, zero, suc, ◌+◌, ◌<◌, List, [], ◌∷◌, ◌++◌, map, length, set, Bool, true, false, true≢false, cond, refl, sym, ap, ◌∙◌, subst, inl, inr, ⊎_elim, arith, Option, Some, None}
-use Rattle.std.specs.Prelude.{sum_by, filter, not, ◌&&◌, ◌==◌}
-use Rattle.std.proofs.lemmas.List.Sums.{sum_by-append, sum_by_push}
-use Rattle.std.proofs.lemmas.List.{map-append, map-set}
-use Rattle.std.proofs.lemmas.Bool.{cases_eq, cases_Bool, eqb-true}
-use mathlib.Core.Option.{some, some-ne-none, some-injective}
-use lib.ListN.{get_elem?}
-use Rattle.atomic_table.proofs.Lists.{at_map, set_else}
-use Rattle.psac_ops.specs.declared.plain.Handle.{Handle}
+use Rattle.psac_readers.proofs.Terms.{sum_by, filter, not, ◌&&◌, ◌==◌, sum_by-append, sum_by_push, map-append, map-set, cases_eq, cases_Bool, eqb-true, some, some-ne-none, some-injective, get_elem?, at_map, set_else, Handle, stem, sum_set, sum_two, all_set, Stage, Claimed, UnderWay, In, Dead, LinkView, WalkView, SharedView, ReadersView, Member, Rights, Divided, stays, goes, above, comes_back, united, no_rights, in_set, named, linked, deads, Each, mods_of, claims_of, rights_of, Knows, Placed, Seen, Tells, Readable, labelled, ways, right_link, now_shared, left_of, right_of, joined, unknown, spent, member_left, member_right, filter_member, map_member, one_after, Strangers, on_left, on_right, divides, unites, alone_cases, none_there, shared_same}
 use Rattle.psac_slots.specs.Claiming as claiming
 use Rattle.psac_slots.specs.Handles as handles
-use Rattle.psac_slots.specs.Branches.{stem}
 use Rattle.psac_slots.proofs.Keeps as laws
-use Rattle.psac_slots.proofs.Sums.{sum_set, sum_two, all_set}
-use Rattle.psac_slots.proofs.Turns.{stem_push}
-use Rattle.psac_readers.specs.declared.view.Stage.{Stage}
-use Rattle.psac_readers.specs.declared.view.Stage.TheVariants.{Claimed, UnderWay, In, Dead}
-use Rattle.psac_readers.specs.declared.view.LinkView.{LinkView}
-use Rattle.psac_readers.specs.declared.view.WalkView.{WalkView}
-use Rattle.psac_readers.specs.declared.view.SharedView.{SharedView}
-use Rattle.psac_readers.specs.declared.view.ReadersView.{ReadersView}
-use Rattle.psac_slots.specs.Handles.{Member}
-use Rattle.psac_slots.specs.Divided.{Rights, Divided, stays, goes, above, comes_back, united, no_rights}
-use Rattle.psac_readers.specs.Chained.{in_set, named, linked, deads, Each, mods_of, claims_of, rights_of, Knows, Placed, Seen, Tells, Readable, labelled, ways}
-use Rattle.psac_readers.specs.Steps.{right_link, now_shared, left_of, right_of, joined, unknown, spent}
-use Rattle.psac_slots.proofs.Pairs.{member_left, member_right, filter_member, map_member, one_after}
-use Rattle.psac_slots.proofs.Dividing.{Strangers, on_left, on_right, divides, unites, alone_cases, none_there, shared_same}
 use Rattle.psac_readers.proofs.Links.{each_imp, each_append, each_filter, each_pass, each_zero, sum_split, sum_pass, sum_only, mods_filter}
 
 is_off : (b : Bool) → not b ≡ true → b ≡ false
@@ -198,9 +176,8 @@ module _ (links mods : ℕ) (words : List ℕ) (views : List ReadersView) (h : R
       let au = at_map rights_of views j u q in
       let av = at_map rights_of views id v at in
       let vu = h.rights.beside id j (rights_of v) (rights_of u) av au (λ p. n (sym p)) in
-      let uv = h.rights.beside j id (rights_of u) (rights_of v) au av n in
       each_zero (Placed (mods_of u.walk) u.shared) (linked m x)
-      (none_of m x (mods_of u.walk) u.shared (λ p. uv.apart m p e had is)
+      (none_of m x (mods_of u.walk) u.shared (λ p. (h.rights.beside j id (rights_of u) (rights_of v) au av n).apart m p e had is)
       (λ f hf of. none_there ways (map rights_of views) id other (rights_of v) (rights_of w) b h.rights av (at_map rights_of views other w was) two live alive lb rb strange j (rights_of u) n o au f hf (ap (λ (z : SharedView). z.label) (sym (vu.one e f had hf (is ∙ sym of))) ∙ label)))
       u.links (h.sets.tells j u q).placed
 
@@ -213,7 +190,6 @@ module _ (links mods : ℕ) (words : List ℕ) (views : List ReadersView) (h : R
       let there : get_elem? mid other ≡ some w = set_else views id other J two ∙ was in
       let av = at_map rights_of views id v at in
       let aw = at_map rights_of views other w was in
-      let base : stem v.claims.branch ≡ b = ap stem lb ∙ stem_push b false in
       let total : (g : LinkView → ℕ) → sum_by (λ (u : ReadersView). sum_by g u.links) (set mid other spent) ≡ sum_by (λ (u : ReadersView). sum_by g u.links) views =
       λ g. let x = sum_set (λ (u : ReadersView). sum_by g u.links) views id v J at in let y = sum_set (λ (u : ReadersView). sum_by g u.links) mid other w spent there in let z = sum_by-append g v.links w.links in omega (arith, x, y, z) in
       let back_in : (k : LinkView) (e : SharedView) → Member e v.shared → e.of ≡ k.of → Member k.of (united ways (rights_of v) (rights_of w)).alone ⊎ ((f : SharedView) × Member f J.shared × (f.of ≡ k.of)) =
@@ -267,12 +243,11 @@ module _ (links mods : ℕ) (words : List ℕ) (views : List ReadersView) (h : R
                     (λ p. let o = s.whole m p x in omega (arith, a, c, d, o))
                     (λ (p : (f : SharedView) × Member f v.shared × (f.of ≡ m) × (f.label ≡ b)).
                     let f : ReadersView → ℕ = λ u. sum_by (linked m x) u.links in
-                    let g = total (linked m x) in
                     let only = sum_only f (set mid other spent) id J (set_else mid other id spent (λ q. two (sym q)) ∙ set_there views id v J at)
                     (λ i y' no e'. all_set (λ i y'. i ≢ id → f y' ≡ 0) mid other spent (λ _. refl)
                     (λ i y' o e'. all_set (λ i y'. i ≢ other → i ≢ id → f y' ≡ 0) views id J (λ _ q. absurd (q refl))
                     (λ i z _ d' o' n'. third m p.0 p.1 p.2 p.3 i z n' o' d' x) i y' e' o) i y' e' no) in
-                    omega (arith, a, c, g, only))
+                    omega (arith, a, c, total (linked m x), only))
                     y)
                     (cases m had);
                 seen = each_append (Seen h.sets.chain) (v.walk ++ w.walk) (map unknown (filter (comes_back ways (stem v.claims.branch)) v.shared)) (each_append (Seen h.sets.chain) v.walk w.walk t.seen s.seen) (seen_unknown h.sets.chain (filter (comes_back ways (stem v.claims.branch)) v.shared));

@@ -1,21 +1,6 @@
 -- A walk that takes links off.
 use Rattle.std.proofs.Common.{◌≡◌, ◌≢◌, ◌⊎◌, ℕ, suc, ◌+◌, ◌-◌, ◌<◌, ◌≤◌, List, [], ◌∷◌, ◌++◌, map, length, Bool, true, false, true≢false, cond, refl, sym, ap, ◌∙◌, subst, inl, ⊎_elim, arith, Option, Some, None, append_assoc, append-nil}
-use Rattle.std.specs.Prelude.{sum_by, filter, ◌==◌}
-use Rattle.std.proofs.lemmas.Bool.{eq-eqb, eqb-true, ne_eqb, cases_eq, cases_lt}
-use Rattle.std.proofs.lemmas.List.Sums.{sum_by-cons}
-use Rattle.psac_ops.specs.declared.plain.Handle.{Handle}
-use Rattle.psac_slots.specs.declared.view.ClaimView.{ClaimView}
-use Rattle.psac_slots.specs.Handles.{Member, slot_times, removed}
-use Rattle.psac_slots.proofs.Removed.{member_times, removed_gone, removed_else}
-use Rattle.psac_readers.specs.declared.view.Stage.{Stage}
-use Rattle.psac_readers.specs.declared.view.Stage.TheVariants.{Claimed, UnderWay, In, Dead}
-use Rattle.psac_readers.specs.declared.view.LinkView.{LinkView}
-use Rattle.psac_readers.specs.declared.view.WalkView.{WalkView}
-use Rattle.psac_readers.specs.declared.view.ReadersView.{ReadersView}
-use Rattle.psac_readers.specs.Chained.{head_at, next_at, in_set, is_live, named, linked, alive, deads, times, Each, mods_of}
-use Rattle.psac_readers.specs.Steps.{chain_of, learn, learned, front, behind, without, known_without, lose, other_link, swept_one, swept, IsSet, is_settled, Fine, Holds}
-use Rattle.psac_readers.specs.Passes.{from_word, or_empty, Walks, Placing}
-use Rattle.psac_readers.specs.Swept.{TakenOff, Going, remaining, AllGiven}
+use Rattle.psac_readers.proofs.Terms.{sum_by, filter, ◌==◌, eq-eqb, eqb-true, ne_eqb, cases_eq, cases_lt, sum_by-cons, Handle, ClaimView, Member, slot_times, removed, member_times, removed_gone, removed_else, Stage, Claimed, UnderWay, In, Dead, LinkView, WalkView, ReadersView, head_at, next_at, in_set, is_live, named, linked, alive, deads, times, Each, mods_of, chain_of, learn, learned, front, behind, without, known_without, lose, other_link, swept_one, swept, IsSet, is_settled, Fine, Holds, from_word, or_empty, Walks, Placing, TakenOff, Going, remaining, AllGiven}
 use Rattle.psac_slots.specs.Claiming as claiming
 use Rattle.psac_readers.proofs.Links.{each_filter, mods_learn}
 use Rattle.psac_readers.proofs.Walking.{chain_learn, chain_named}
@@ -97,11 +82,7 @@ module _ (all : Bool) (v w : ReadersView) (m before word : ℕ) (g : Going all v
 
   not_gone : times (word - 1) g.gone ≡ 0
   not_gone =
-      let p = g.parts (word - 1) in
-      let s = (g.set (word - 1)).1 in
-      let r = ap (times (word - 1)) rest_is in
-      let o = one_if (word - 1) (word - 1) refl in
-      omega (arith, p, s, r, o)
+      omega (arith, g.parts (word - 1), (g.set (word - 1)).1, ap (times (word - 1)) rest_is, one_if (word - 1) (word - 1) refl)
 
   pub leads_on : (next : ℕ) → next ≡ front (behind (word - 1) (g.kept ++ (word - 1) ∷ behind_it)) → next ≡ front behind_it
   leads_on next e = e ∙ ap front (behind_mid (word - 1) g.kept behind_it not_kept)
@@ -313,11 +294,9 @@ settled_in Dead e = refl
 none_linked : (links : ℕ) (ks : List LinkView) → Each (Fine links) ks → ((m l : ℕ) → sum_by (linked m l) ks ≡ 0) → ks ≡ []
 none_linked links [] h z = refl
 none_linked links (k ∷ ks) h z =
-    let a = sum_by-cons (linked k.of k.link) k ks in
     let b = z k.of k.link in
     let c : linked k.of k.link k ≡ in_set k.stage = ap {B = ℕ} (λ b. cond b (cond (k.of == k.of) (in_set k.stage) 0) 0) (eq-eqb k.link k.link refl) ∙ ap {B = ℕ} (λ b. cond b (in_set k.stage) 0) (eq-eqb k.of k.of refl) in
-    let d = settled_in k.stage h.0.settled in
-    absurd (omega (arith, a, b, c, d))
+    absurd (omega (arith, sum_by-cons (linked k.of k.link) k ks, b, c, settled_in k.stage h.0.settled))
 
 none_held : (hs : List Handle) → ((s : ℕ) → slot_times s hs ≡ 0) → hs ≡ []
 none_held [] z = refl

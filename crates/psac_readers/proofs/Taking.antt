@@ -1,25 +1,10 @@
 -- The steps by which a sole pass takes a link off its set and gives it back.
 use Rattle.std.proofs.Common.{◌≡◌, ◌≢◌, ℕ, ◌+◌, ◌<◌, ◌≤◌, List, [], ◌∷◌, ◌++◌, map, length, set, Bool, true, false, true≢false, cond, refl, sym, ap, ◌∙◌, subst, ⊎_elim, arith, length-set, mod-lt}
-use Rattle.std.specs.Prelude.{sum_by, filter, not, ◌==◌}
-use Rattle.std.proofs.lemmas.List.Sums.{sum_by-cons}
-use Rattle.std.proofs.lemmas.List.{map-set}
-use Rattle.std.proofs.lemmas.Bool.{eq-eqb, eqb-true, ne_eqb, cases_eq}
-use mathlib.Core.Option.{some}
-use lib.ListN.{get_elem?}
-use Rattle.atomic_table.proofs.Lists.{at_map, set_here, set_else}
-use Rattle.psac_ops.specs.declared.plain.Handle.{Handle}
+use Rattle.psac_readers.proofs.Terms.{sum_by, filter, not, ◌==◌, sum_by-cons, map-set, eq-eqb, eqb-true, ne_eqb, cases_eq, some, get_elem?, at_map, set_here, set_else, Handle, removed_gone, removed_else, sum_set, sum_at, all_set, Stage, Claimed, UnderWay, In, Dead, LinkView, ReadersView, head_at, dead_at, in_set, is_dead, named, linked, deads, Each, mods_of, claims_of, Staged, Knows, Placed, Tells, Readable, reviving, revive, revived, other_link, freed, is_settled, settled}
 use Rattle.psac_slots.specs.Handles as handles
-use Rattle.psac_slots.specs.Handles.{Member}
 use Rattle.psac_slots.specs.Claiming as claiming
 use Rattle.psac_slots.proofs.Rewinds as turns
-use Rattle.psac_slots.proofs.Removed.{found, removed_gone, removed_else}
-use Rattle.psac_slots.proofs.Sums.{sum_set, sum_at, all_set}
-use Rattle.psac_readers.specs.declared.view.Stage.{Stage}
-use Rattle.psac_readers.specs.declared.view.Stage.TheVariants.{Claimed, UnderWay, In, Dead}
-use Rattle.psac_readers.specs.declared.view.LinkView.{LinkView}
-use Rattle.psac_readers.specs.declared.view.ReadersView.{ReadersView}
-use Rattle.psac_readers.specs.Chained.{head_at, dead_at, in_set, is_dead, named, linked, deads, Each, mods_of, claims_of, Staged, Knows, Placed, Tells, Readable}
-use Rattle.psac_readers.specs.Steps.{reviving, revive, revived, other_link, freed, is_settled, settled}
+use Rattle.psac_slots.proofs.Removed.{found}
 use Rattle.psac_readers.proofs.Links.{each_imp, each_map, each_filter, sum_map, sum_same, sum_under, sum_split, sum_pass, sum_only, knows_set}
 use Rattle.psac_readers.proofs.Keeps.{same_rights, same_claims, single, inside, others_stay}
 use Rattle.psac_readers.proofs.Acts.{dead_here}
@@ -85,7 +70,6 @@ module _ (links mods : ℕ) (words : List ℕ) (views : List ReadersView) (h : R
       let i = dead_at links mods l in
       let w = revived l v in
       let t = h.sets.tells id v at in
-      let low = inside links mods words views h id v at l mine in
       let know : (ks : List LinkView) → Each (Knows links mods words h.sets.next) ks → Each (Knows links mods (set words i 0) h.sets.next) ks =
       each_imp (Knows links mods words h.sets.next) (Knows links mods (set words i 0) h.sets.next) (λ k p. knows_set links mods words h.sets.next h.sets.next i 0 k (λ q. absurd (omega (arith, q))) (λ q. absurd (omega (arith, q))) refl p) in
       let linked_stay : (m x : ℕ) → sum_by (linked m x) w.links ≡ sum_by (linked m x) v.links = λ m x. sum_map (revive l) (linked m x) v.links ∙ sum_same (λ k. linked m x (revive l k)) (linked m x) (revive_linked l m x) v.links in
@@ -106,7 +90,7 @@ module _ (links mods : ℕ) (words : List ℕ) (views : List ReadersView) (h : R
           heads = λ m lt. let o = h.sets.heads m lt in (o.0, set_else words i (head_at links m) 0 (λ q. absurd (omega (arith, q, lt))) ∙ o.1, o.2);
           stored = λ x lt. ⊎_elim
               (λ (e : x ≡ l). subst (λ y. get_elem? (set words i 0) (dead_at links mods y) ≡ some (sum_by (λ (u : ReadersView). sum_by (deads y) u.links) (set views id w))) (sym e)
-              (set_here words i 0 (let a = h.sets.long in omega (arith, a, low)) ∙ ap some
+              (set_here words i 0 (let a = h.sets.long in omega (arith, a, inside links mods words views h id v at l mine)) ∙ ap some
               (let s = sum_set (λ (u : ReadersView). sum_by (deads l) u.links) views id v w at in let d = dead_here links mods words views h id v at l mine in omega (arith, s, gone, d))))
               (λ (n : x ≢ l). set_else words i (dead_at links mods x) 0 (λ q. n (omega (arith, q))) ∙ (h.sets.stored x lt ∙ ap some
               (let s = sum_set (λ (u : ReadersView). sum_by (deads x) u.links) views id v w at in let q = stay x n in omega (arith, s, q))))
@@ -177,9 +161,7 @@ is_same l k e = by (k.link == l) refl e
 
 pub others_sum : (l x : ℕ) (g : LinkView → ℕ) → Only x g → x ≢ l → (ks : List LinkView) → sum_by g (filter (other_link l) ks) ≡ sum_by g ks
 others_sum l x g o n ks =
-    let a = sum_split g (other_link l) ks in
-    let b = sum_pass g (λ k. not (other_link l k)) (λ k e. o k (λ q. n (sym q ∙ is_same l k e))) ks in
-    omega (arith, a, b)
+    omega (arith, sum_split g (other_link l) ks, sum_pass g (λ k. not (other_link l k)) (λ k e. o k (λ q. n (sym q ∙ is_same l k e))) ks)
 
 pub gone_sum : (l : ℕ) (g : LinkView → ℕ) → Only l g → (ks : List LinkView) → sum_by g (filter (other_link l) ks) ≡ 0
 gone_sum l g o ks = sum_pass g (other_link l) (λ k e. o k (is_other l k e)) ks
@@ -192,10 +174,7 @@ module _ (links mods : ℕ) (words : List ℕ) (views : List ReadersView) (h : R
 
   pub holds : (l : ℕ) → 0 < sum_by (named l) v.links → 0 < handles.slot_times l v.claims.held
   holds l mine =
-      let whole = sum_at (λ (u : ReadersView). sum_by (named l) u.links) views id v at in
-      let a = all_held l in
-      let b = h.sets.owed l in
-      omega (arith, a, b, whole, mine)
+      omega (arith, all_held l, h.sets.owed l, sum_at (λ (u : ReadersView). sum_by (named l) u.links) views id v at, mine)
 
   pub frees_at : h.counter ≡ 0 → (l : ℕ) → 0 < sum_by (named l) v.links → sum_by (stands l) v.links ≡ 0
       → Readable links mods (set words (claiming.place links (h.head + length h.list)) (handles.word_of (record { slot = l; generation = 1 }))) (set views id (freed l v))
@@ -209,8 +188,7 @@ module _ (links mods : ℕ) (words : List ℕ) (views : List ReadersView) (h : R
       let near : i ≤ links = let m = mod-lt (h.head + length h.list) {m = links} (omega (arith, low)) in omega (arith, m) in
       let one = single links mods words views h id v at l in
       let whole = sum_at (λ (u : ReadersView). sum_by (named l) u.links) views id v at in
-      let has = holds l mine in
-      let x = found l v.claims.held has in
+      let x = found l v.claims.held (holds l mine) in
       let none_linked : (m : ℕ) → sum_by (linked m l) v.links ≡ 0 = λ m. let a = sum_under (linked m l) (stands l) (linked_stands m l) v.links in omega (arith, a, out) in
       let none_dead : sum_by (deads l) v.links ≡ 0 = let a = sum_under (deads l) (stands l) (dead_stands l) v.links in omega (arith, a, out) in
       let know : (ks : List LinkView) → Each (Knows links mods words h.sets.next) ks → Each (Knows links mods (set words i n) h.sets.next) ks =

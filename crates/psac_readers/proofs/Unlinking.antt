@@ -1,20 +1,7 @@
 -- A link is taken off its set.
 use Rattle.std.proofs.Common.{◌≡◌, ◌≢◌, ◌⊎◌, ℕ, suc, ◌+◌, ◌<◌, ◌≤◌, List, [], ◌∷◌, ◌++◌, map, set, Bool, true, false, cond, refl, sym, ap, ◌∙◌, subst, inl, inr, ⊎_elim, arith, Option, Some, None, length-set, append_assoc}
-use Rattle.std.specs.Prelude.{sum_by, ◌==◌}
-use Rattle.std.proofs.lemmas.Bool.{eq-eqb, eqb-true, ne_eqb, cases_eq}
-use mathlib.Core.Option.{some}
-use lib.ListN.{get_elem?}
-use Rattle.atomic_table.proofs.Lists.{set_here, set_else}
+use Rattle.psac_readers.proofs.Terms.{sum_by, ◌==◌, eq-eqb, eqb-true, ne_eqb, cases_eq, some, get_elem?, set_here, set_else, Member, sum_set, all_set, Stage, Claimed, UnderWay, In, Dead, LinkView, WalkView, ReadersView, head_at, next_at, dead_at, node_at, Follows, in_set, is_live, is_dead, named, linked, alive, deads, times, Each, mods_of, Staged, Knows, Placed, Seen, Tells, Readable, leaving, take_off, without, known_without, lose, unlinked, led_from, is_settled, Fine, front}
 use Rattle.psac_slots.specs.Handles as handles
-use Rattle.psac_slots.specs.Handles.{Member}
-use Rattle.psac_slots.proofs.Sums.{sum_set, all_set}
-use Rattle.psac_readers.specs.declared.view.Stage.{Stage}
-use Rattle.psac_readers.specs.declared.view.Stage.TheVariants.{Claimed, UnderWay, In, Dead}
-use Rattle.psac_readers.specs.declared.view.LinkView.{LinkView}
-use Rattle.psac_readers.specs.declared.view.WalkView.{WalkView}
-use Rattle.psac_readers.specs.declared.view.ReadersView.{ReadersView}
-use Rattle.psac_readers.specs.Chained.{head_at, next_at, dead_at, node_at, Follows, in_set, is_live, is_dead, named, linked, alive, deads, times, Each, mods_of, Staged, Knows, Placed, Seen, Tells, Readable}
-use Rattle.psac_readers.specs.Steps.{leaving, take_off, without, known_without, lose, unlinked, led_from, is_settled, Fine, front}
 use Rattle.psac_readers.proofs.Links.{each_imp, each_map, each_named, sum_map, sum_same, sum_plus, sum_under, only_here, linked_named, alive_deads, follows_else, knows_set, is_there, next_word, front_is}
 use Rattle.psac_readers.proofs.Walking.{all_whole}
 use Rattle.psac_readers.proofs.Keeps.{same_rights, same_claims, single, inside, elsewhere, here_once}
@@ -142,29 +129,22 @@ module _ (links mods : ℕ) (words : List ℕ) (views : List ReadersView) (h : R
       let g : ReadersView → ℕ = λ u. sum_by (linked y x) u.links in
       let a = sum_plus f g (λ u. f u + g u) (λ u. refl) views in
       let b = sum_under (λ u. f u + g u) (λ (u : ReadersView). sum_by (named x) u.links) (λ u. let c = sum_plus (linked m x) (linked y x) (λ k. linked m x k + linked y x k) (λ k. refl) u.links in let d = sum_under (λ k. linked m x k + linked y x k) (named x) (λ k. apart_sets m y x k n) u.links in omega (arith, c, d)) views in
-      let o = single links mods words views h id v at x in
-      let cm = h.sets.counted m x in
-      let cy = h.sets.counted y x in
-      omega (arith, a, b, o, cm, cy, p)
+      omega (arith, a, b, single links mods words views h id v at x, h.sets.counted m x, h.sets.counted y x, p)
 
   off_links : (y x : ℕ) → x ≢ l → sum_by (linked y x) (map (take_off l) v.links) ≡ sum_by (linked y x) v.links
   off_links y x n = sum_map (take_off l) (linked y x) v.links ∙ sum_same (λ k. linked y x (take_off l k)) (linked y x) (λ k. off_else l y x k n) v.links
 
   off_none : (y : ℕ) → sum_by (linked y l) (map (take_off l) v.links) ≡ 0
   off_none y =
-      let a = sum_map (take_off l) (linked y l) v.links in
       let b = sum_plus (λ k. linked y l (take_off l k)) (alive l) (λ k. linked y l (take_off l k) + alive l k) (λ k. refl) v.links in
       let c = sum_under (λ k. linked y l (take_off l k) + alive l k) (named l) (off_here l y) v.links in
-      let o = here_once links mods words views h id v at l in
-      omega (arith, a, b, c, o, live)
+      omega (arith, sum_map (take_off l) (linked y l) v.links, b, c, here_once links mods words views h id v at l, live)
 
   -- a set that another pass has is without the link
   foreign : (j : ℕ) (u : ReadersView) → j ≢ id → get_elem? views j ≡ some u → (y : ℕ) → Member y (mods_of u.walk) → times l (h.sets.chain y) ≡ 0
   foreign j u n e y has =
-      let a = (h.sets.tells j u e).whole y has l in
       let b = sum_under (linked y l) (named l) (linked_named y l) u.links in
-      let c = elsewhere links mods words views h id v at l mine j u n e in
-      omega (arith, a, b, c)
+      omega (arith, (h.sets.tells j u e).whole y has l, b, elsewhere links mods words views h id v at l mine j u n e)
 
   seen_else : (us : List WalkView) → ((y : ℕ) → Member y (mods_of us) → times l (h.sets.chain y) ≡ 0) → Each (Seen h.sets.chain) us → Each (Seen (λ y. without l (h.sets.chain y))) us
   seen_else [] n s = tt
@@ -270,8 +250,7 @@ module _ (links mods : ℕ) (words : List ℕ) (views : List ReadersView) (h : R
       let f : Follows h.sets.next head.0 (z ++ p ∷ l ∷ b) = subst (Follows h.sets.next head.0) is head.2 in
       let t = h.sets.tells id v at in
       let cp = ap (times p) is ∙ times_append p z (p ∷ l ∷ b) in
-      let one_p = one_if p p refl in
-      let mine_p : 0 < sum_by (named p) v.links = let w = t.whole m has p in let u = sum_under (linked m p) (named p) (linked_named m p) v.links in omega (arith, w, u, cp, one_p) in
+      let mine_p : 0 < sum_by (named p) v.links = let w = t.whole m has p in let u = sum_under (linked m p) (named p) (linked_named m p) v.links in omega (arith, w, u, cp, one_if p p refl) in
       next_word links mods words h.sets.next p v.links t.known (let g = (all_whole links p v.links fine).1 in omega (arith, g, mine_p)) ∙ ap some (leads h.sets.next p l z b head.0 f)
 
   -- the word behind a part of a chain names the link that follows
@@ -289,9 +268,7 @@ module _ (links mods : ℕ) (words : List ℕ) (views : List ReadersView) (h : R
   few : (x : ℕ) → times x (h.sets.chain m) ≤ 1
   few x =
       let a = (h.sets.tells id v at).whole m has x in
-      let u = sum_under (linked m x) (named x) (linked_named m x) v.links in
-      let o = here_once links mods words views h id v at x in
-      omega (arith, a, u, o)
+      omega (arith, a, sum_under (linked m x) (named x) (linked_named m x) v.links, here_once links mods words views h id v at x)
 
   -- the first of the chain
   first_off : h.sets.chain m ≡ l ∷ b → Readable links mods (set words (head_at links m) (h.sets.next l)) (set views id (unlinked l v)) × (get_elem? words (head_at links m) ≡ some (suc l))
@@ -301,10 +278,9 @@ module _ (links mods : ℕ) (words : List ℕ) (views : List ReadersView) (h : R
       let head = h.sets.heads m small in
       let f : Follows h.sets.next head.0 (l ∷ b) = subst (Follows h.sets.next head.0) is head.2 in
       let g : Follows h.sets.next n b = f.1 in
-      let o = few l in
       let c = ap (times l) is in
       let one = one_if l l refl in
-      let lb : times l b ≡ 0 = omega (arith, o, c, one) in
+      let lb : times l b ≡ 0 = omega (arith, few l, c, one) in
       let there : 0 < times l (h.sets.chain m) = omega (arith, c, one) in
       let set_it = is_there words i head.0 head.1 in
       let kept : (k : LinkView) → Knows links mods words h.sets.next k → Knows links mods (set words i n) h.sets.next k = λ k p. knows_set links mods words h.sets.next h.sets.next i n k (λ q. absurd (omega (arith, q, small))) (λ q. absurd (omega (arith, q, small))) refl p in (
@@ -345,9 +321,7 @@ module _ (links mods : ℕ) (words : List ℕ) (views : List ReadersView) (h : R
       let there_l : 0 < times l (h.sets.chain m) = omega (arith, cl, one_l) in
       let there_p : 0 < times p (h.sets.chain m) = omega (arith, cp, one_p) in
       let mine_p : 0 < sum_by (named p) v.links = let w = t.whole m has p in let u = sum_under (linked m p) (named p) (linked_named m p) v.links in omega (arith, w, u, there_p) in
-      let low = inside links mods words views h id v at p mine_p in
-      let long = h.sets.long in
-      let here = set_here words i n (omega (arith, long, low)) in
+      let here = set_here words i n (omega (arith, h.sets.long, inside links mods words views h id v at p mine_p)) in
       let kept : (k : LinkView) → k.link ≢ p → Knows links mods words h.sets.next k → Knows links mods (set words i n) next k = λ k d q. knows_set links mods words h.sets.next next i n k (λ e. d (omega (arith, e))) (λ e. absurd (omega (arith, e))) (next_x k.link d) q in
       let own : (k : LinkView) → Fine links k → Knows links mods words h.sets.next k → Knows links mods (set words i n) next k = λ k g q. ⊎_elim
       (λ (e : k.link ≡ p). (

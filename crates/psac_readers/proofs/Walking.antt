@@ -1,18 +1,6 @@
 -- A walk along a chain.
 use Rattle.std.proofs.Common.{◌≡◌, ◌≢◌, ◌⊎◌, ℕ, suc, zero, ◌+◌, ◌-◌, ◌<◌, ◌≤◌, List, [], ◌∷◌, map, length, Bool, true, false, true≢false, cond, ltb, refl, sym, ap, ◌∙◌, subst, inl, inr, ⊎_elim, arith, Option, Some, None}
-use Rattle.std.specs.Prelude.{sum_by, ◌==◌, IfSome}
-use Rattle.std.proofs.lemmas.List.Sums.{sum_by-cons}
-use Rattle.std.proofs.lemmas.Bool.{eq-eqb, eqb-true, ne_eqb, lt-ltb, le-ltb, ltb-true}
-use Rattle.psac_readers.specs.declared.view.Stage.{Stage}
-use Rattle.psac_readers.specs.declared.view.Stage.TheVariants.{Claimed, UnderWay, In, Dead}
-use Rattle.psac_readers.specs.declared.view.LinkView.{LinkView}
-use Rattle.psac_readers.specs.declared.view.ReadersView.{ReadersView}
-use Rattle.psac_readers.specs.Chained.{named, linked, alive, deads, in_set, is_live, is_dead, times, Each, mods_of}
-use Rattle.psac_readers.specs.declared.view.WalkView.{WalkView}
-use Rattle.psac_slots.specs.Handles.{Member}
-use Rattle.psac_readers.specs.Steps.{Fine, is_settled, settled, front, behind, next_live, IsSet, chain_of, set_of, node_in, learn}
-use Rattle.psac_readers.specs.declared.readers.Link.{Link}
-use Rattle.psac_readers.specs.Passes.{from_word, has_word, Walks, OnWalk, found}
+use Rattle.psac_readers.proofs.Terms.{sum_by, ◌==◌, IfSome, sum_by-cons, eq-eqb, eqb-true, ne_eqb, lt-ltb, le-ltb, ltb-true, Stage, Claimed, UnderWay, In, Dead, LinkView, ReadersView, named, linked, alive, deads, in_set, is_live, is_dead, times, Each, mods_of, WalkView, Member, Fine, is_settled, settled, front, behind, next_live, IsSet, chain_of, set_of, node_in, learn, Link, from_word, has_word, Walks, OnWalk, found}
 use Rattle.psac_readers.proofs.Links.{linked_named, sum_under}
 
 -- a word that names a link of the chain
@@ -121,9 +109,8 @@ pub turn_dead : (n : ℕ) (v : ReadersView) (m w dead : ℕ) (ls : List ℕ) →
     → has_word new ls × (next_live v.links (from_word new ls) ≡ next_live v.links (from_word w ls)) × (length (from_word new ls) < length (from_word w ls))
 turn_dead n v m w dead ls set t fine once is d new e =
     let p : from_word new ls ≡ behind (w - 1) ls = ap (λ x. from_word x ls) e ∙ next_part (w - 1) ls (λ x. (set x).1) in
-    let a = (all_whole n (w - 1) v.links fine).0 in
     let dead_one : 0 < sum_by (deads (w - 1)) v.links = more dead d is in
-    let off : sum_by (alive (w - 1)) v.links ≡ 0 = omega (arith, a, once, dead_one) in (
+    let off : sum_by (alive (w - 1)) v.links ≡ 0 = omega (arith, (all_whole n (w - 1) v.links fine).0, once, dead_one) in (
       e ∙ ap front (sym p),
       ap (next_live v.links) p ∙ (sym (passes v.links (w - 1) (behind (w - 1) ls) off) ∙ ap (next_live v.links) (sym t.part)),
       (let x = ap length p in let y = ap length t.part in omega (arith, x, y)),

@@ -1,15 +1,6 @@
 -- A whole walk lists the live links of its set.
 use Rattle.std.proofs.Common.{◌≡◌, ◌≢◌, ℕ, ◌+◌, ◌<◌, ◌≤◌, List, [], ◌∷◌, Bool, true, false, true≢false, cond, ltb, refl, sym, ap, ◌∙◌, subst, arith, Option, Some, None}
-use Rattle.std.specs.Prelude.{sum_by, ◌==◌}
-use Rattle.std.proofs.lemmas.List.Sums.{sum_by-cons}
-use Rattle.std.proofs.lemmas.Bool.{eq-eqb, eqb-true, ne_eqb}
-use Rattle.psac_readers.specs.declared.view.Stage.{Stage}
-use Rattle.psac_readers.specs.declared.view.Stage.TheVariants.{Claimed, UnderWay, In, Dead}
-use Rattle.psac_readers.specs.declared.view.LinkView.{LinkView}
-use Rattle.psac_readers.specs.declared.view.ReadersView.{ReadersView}
-use Rattle.psac_readers.specs.Chained.{named, linked, alive, in_set, is_live, times}
-use Rattle.psac_readers.specs.Steps.{IsSet, behind, next_live}
-use Rattle.psac_readers.specs.Walked.{Answers, live_in, Walked}
+use Rattle.psac_readers.proofs.Terms.{sum_by, ◌==◌, sum_by-cons, eq-eqb, eqb-true, ne_eqb, Stage, Claimed, UnderWay, In, Dead, LinkView, ReadersView, named, linked, alive, in_set, is_live, times, IsSet, behind, next_live, Answers, live_in, Walked}
 use Rattle.psac_readers.proofs.Links.{sum_under}
 
 abbrev is_alive : List LinkView → ℕ → Bool

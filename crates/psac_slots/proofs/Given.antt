@@ -1,5 +1,5 @@
 -- Lists that are filtered, one slot after another.
-use Rattle.std.proofs.Common.{◌≡◌, ◌≢◌, ℕ, suc, ◌<◌, ◌≤◌, ◌+◌, List, [], ◌∷◌, Bool, true, false, cond, ltb, refl, ap, ◌∙◌, inl, inr, ⊎_elim, arith}
+use Rattle.std.proofs.Common.{◌≡◌, ◌≢◌, ℕ, suc, ◌<◌, ◌≤◌, ◌+◌, List, [], ◌∷◌, map, Bool, true, false, cond, ltb, refl, sym, ap, ◌∙◌, inl, inr, ⊎_elim, arith}
 use Rattle.std.specs.Prelude.{filter, not, ◌==◌, ◌&&◌}
 use Rattle.std.proofs.lemmas.Bool.{eq-eqb, ne_eqb, lt-ltb, le-ltb, cases_lt, cases_eq}
 use Rattle.psac_ops.specs.declared.plain.Handle.{Handle}
@@ -73,3 +73,25 @@ only_one x (h ∷ hs) d m =
     let n : h.slot ≢ x.slot = λ q. let t : bit (h.slot == x.slot) ≡ 1 = ap bit (eq-eqb h.slot x.slot q) in let o = d x.slot in let k = c x.slot in omega (arith, t, o, k, a) in
     ap (λ b. cond b (h ∷ only x.slot hs) (only x.slot hs)) (ne_eqb h.slot x.slot n) ∙ only_one x hs (λ s. let o = d s in let k = c s in omega (arith, o, k)) r)
     m
+
+head_of : (x y : Handle) → x ∷ [] ≡ y ∷ [] → x ≡ y
+head_of x y e = cc
+
+-- where no slot stands twice, a slot names its handle
+pub same_slot : (hs : List Handle) (x y : Handle) → IsDistinct hs → Member x hs → Member y hs → x.slot ≡ y.slot → x ≡ y
+same_slot hs x y d mx my e = head_of x y (sym (only_one x hs d mx) ∙ (ap (λ s. only s hs) e ∙ only_one y hs d my))
+
+module _ {A : Type 0} (of : A → Handle) where
+  filtered_one : (s : ℕ) (t : A) (ts : List A) → map of (filter (λ x. not ((of x).slot == s)) ts) ≡ removed s (map of ts) → (b : Bool) → ((of t).slot == s) ≡ b
+      → map of (cond (not b) (t ∷ filter (λ x. not ((of x).slot == s)) ts) (filter (λ x. not ((of x).slot == s)) ts)) ≡ cond (not b) (of t ∷ removed s (map of ts)) (removed s (map of ts))
+  filtered_one s t ts r true e = r
+  filtered_one s t ts r false e = ap (λ l. of t ∷ l) r
+
+  -- the handles of what is left without a slot
+  pub filtered : (s : ℕ) (ts : List A) → map of (filter (λ x. not ((of x).slot == s)) ts) ≡ removed s (map of ts)
+  filtered s [] = refl
+  filtered s (t ∷ ts) = filtered_one s t ts (filtered s ts) ((of t).slot == s) refl
+
+-- the slots from n on
+abbrev pub held_from : ℕ → Handle → Bool
+held_from n h = not (ltb h.slot n)

@@ -6,7 +6,6 @@ pub mod Rewinds
 pub mod Opens
 pub mod Acts
 pub mod Carrying
-pub mod Drawing
 pub mod Pairs
 pub mod Dividing
 pub mod Kept

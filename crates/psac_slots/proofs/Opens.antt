@@ -1,7 +1,7 @@
 -- The words at the start meet the rule of claims.
-use Rattle.std.proofs.Common.{◌≡◌, ℕ, zero, suc, ◌+◌, ◌%◌, ◌<◌, List, [], ◌∷◌, ◌++◌, map, length, Bool, true, false, true≢false, cond, refl, sym, ap, ◌∙◌, subst, arith, length-append}
+use Rattle.std.proofs.Common.{◌≡◌, ℕ, zero, suc, ◌+◌, ◌%◌, ◌<◌, List, [], ◌∷◌, ◌++◌, map, Bool, true, false, true≢false, cond, refl, sym, ap, ◌∙◌, subst, arith, length-append}
 use Rattle.std.proofs.lemmas.Bool.{le-ltb}
-use Rattle.std.proofs.lemmas.List.{map-append, length-map}
+use Rattle.std.proofs.lemmas.List.{length-map}
 use Rattle.std.proofs.Math.Nat.{mod-eq_of_lt}
 use mathlib.Core.Option.{some, some-ne-none, some-injective}
 use lib.ListN.{get_elem?}
@@ -10,7 +10,6 @@ use Rattle.psac_slots.specs.declared.view.ClaimView.{ClaimView}
 use Rattle.psac_ops.specs.declared.plain.Handle.{Handle}
 use Rattle.psac_slots.specs.Handles.{word_of, fresh}
 use Rattle.psac_slots.specs.Claiming.{Fits, Claimed, first_view}
-use Rattle.psac_slots.specs.Carried.{Carries}
 use Rattle.psac_slots.proofs.Sums.{at_less}
 use Rattle.psac_slots.proofs.Removed.{length-fresh, sized-fresh, slots-fresh}
 
@@ -40,12 +39,3 @@ opens count rest fits =
       each = λ id v e. subst (Fits count 0 0 (fresh count)) (one id v e).1 (record { over = omega arith; count_is = λ _. refl; head_is = λ _. refl; list_is = λ _. refl; short = λ _. omega arith; gone = λ (z : true ≡ false). absurd (true≢false z); sole = (refl, refl, refl) });
       apart = λ i j v w ei ej n lv lw. absurd (n ((one i v ei).0 ∙ sym (one j w ej).0));
     }
-
-pub words_push : (n : ℕ) → 0 ∷ map word_of (fresh (suc n)) ≡ (0 ∷ map word_of (fresh n)) ++ (4294967296 + n) ∷ []
-words_push n = ap (λ (l : List ℕ). 0 ∷ l) (map-append word_of (fresh n) (record { slot = n; generation = 1 } ∷ []))
-
-pub length_words : (n : ℕ) → length (0 ∷ map word_of (fresh n)) ≡ suc n
-length_words n = let a = length-map (fresh n) word_of in let b = length-fresh n in omega (arith, a, b)
-
-pub first_carries : (count words : ℕ) → suc count ≡ words → count < 4294967296 → Carries count 0 count words (first_view count)
-first_carries count words e l = record { live = refl; count_is = refl; head_is = refl; room_is = length-fresh count; room_fits = omega arith; head_fits = omega arith; words_is = e; small = l }

@@ -1,7 +1,7 @@
 -- Members of lists, and facts of each pair of two places.
-use Rattle.std.proofs.Common.{◌≡◌, ◌≢◌, ◌⊎◌, ℕ, ◌<◌, List, [], ◌∷◌, ◌++◌, map, length, set, Bool, true, false, true≢false, cond, refl, sym, ap, ◌∙◌, subst, inl, inr, ⊎_elim}
+use Rattle.std.proofs.Common.{◌≡◌, ◌≢◌, ◌⊎◌, ℕ, zero, suc, ◌<◌, ◌≤◌, List, [], ◌∷◌, ◌++◌, map, length, set, take, drop, Bool, true, false, true≢false, cond, refl, sym, ap, ◌∙◌, subst, inl, inr, ⊎_elim, arith}
 use Rattle.std.specs.Prelude.{filter}
-use mathlib.Core.Option.{some}
+use mathlib.Core.Option.{some, some-ne-none, some-injective}
 use lib.ListN.{get_elem?}
 use Rattle.atomic_table.proofs.Lists.{at_set, at_snoc}
 use Rattle.psac_slots.specs.Handles.{Member}
@@ -84,3 +84,16 @@ member_map f z (x ∷ xs) h = ⊎_elim (λ e. (x, inl refl, e)) (λ r. let q = m
 pub map_member : {A B : Type 0} (f : A → B) (x : A) (xs : List A) → Member x xs → Member (f x) (map f xs)
 map_member f x [] h = absurd h
 map_member f x (y ∷ xs) h = ⊎_elim (λ e. inl (ap f e)) (λ r. inr (map_member f x xs r)) h
+
+pub entry_at : {A : Type 0} (l : List A) (n : ℕ) (x : A) → Member x (take 1 (drop n l)) → get_elem? l n ≡ some x
+entry_at [] zero x m = absurd m
+entry_at [] (suc n) x m = absurd m
+entry_at (y ∷ l) zero x m = ⊎_elim (λ e. ap some e) (λ b. absurd b) m
+entry_at (y ∷ l) (suc n) x m = entry_at l n x m
+
+pub later_member : {A : Type 0} (l : List A) (c k : ℕ) (x : A) → c ≤ k → get_elem? l k ≡ some x → Member x (drop c l)
+later_member [] c k x le e = absurd (some-ne-none x (sym e))
+later_member (y ∷ l) zero zero x le e = inl (some-injective y x e)
+later_member (y ∷ l) zero (suc k) x le e = inr (later_member l zero k x (omega arith) e)
+later_member (y ∷ l) (suc c) zero x le e = absurd (omega arith)
+later_member (y ∷ l) (suc c) (suc k) x le e = later_member l c k x (omega arith) e

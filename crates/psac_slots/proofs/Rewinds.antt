@@ -47,6 +47,18 @@ taken_all zero (x ∷ l) p = absurd (omega (arith, p))
 taken_all (suc c) [] p = refl
 taken_all (suc c) (x ∷ l) p = ap suc (taken_all c l (omega (arith, p)))
 
+-- a pass that knows the counter knows how much of the list is gone
+pub gone_is : (v : ClaimView) (room n gone k : ℕ) → length v.list ≡ room → v.counter ≡ Some k → n ≡ k → ((l : List Handle) → length l ≡ room → length (take n l) ≡ gone) → length (take (counted v.counter) v.list) ≡ gone
+gone_is v room n gone k e knows is took = ap (λ (i : ℕ). length (take i v.list)) (ap counted knows ∙ sym is) ∙ took v.list e
+
+-- what is left of the ring
+pub rest_is : (v : ClaimView) (count head room gone : ℕ) → length v.list ≡ room → room ≤ count → head ≤ count → length (take (counted v.counter) v.list) ≡ gone
+    → (length (drop (counted v.counter) v.list) ≡ room - gone) × (room - gone ≤ count) × (head + gone ≤ count + count) × (turned count (head + gone) ≤ count)
+rest_is v count head room gone b c d e =
+    let a = parts (counted v.counter) v.list in
+    let low : head + gone ≤ count + count = omega (arith, a, b, c, d, e) in
+    (omega (arith, a, b, e), omega (arith, c), low, turned_low count (head + gone) low (cases_lt (head + gone) count))
+
 -- where something is left, the whole counter was taken
 whole_taken : (c : ℕ) (l : List Handle) → 0 < length (drop c l) → length (take c l) ≡ c
 whole_taken zero l p = refl

@@ -1,10 +1,7 @@
 pub mod Branches
 pub mod Handles
-pub mod Free
 pub mod Passes
 pub mod Claiming
-pub mod Steps
 pub mod Divided
-pub mod Carried
 pub mod Promised
 pub mod Given

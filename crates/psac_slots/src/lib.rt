@@ -1,15 +1,11 @@
-//! Slots with generations: a plain list of free ones, and a table from which passes claim them, each by one
-//! `fetch_add` over a free list that is stored in a ring. Tables that claim embed the view and its laws.
+//! What all tables have that claim slots with generations: a counter from which a pass draws by one `fetch_add`, and a
+//! stored free list in a ring. A table embeds the view of its claims, and its rule has theirs.
 #![tactic(auto)]
 
 pub mod claims;
 pub mod full;
 pub mod law;
-pub mod list;
 pub mod view;
 
-pub use claims::{ClaimPass, Claims};
 pub use full::Full;
-pub use list::FreeList;
-pub use psac_base::NoMemory;
 pub use psac_ops::Handle;

@@ -1,27 +1,9 @@
 -- What each step of a table of values allows.
 use Rattle.std.proofs.Common.{◌≡◌, ℕ, suc, ◌+◌, ◌*◌, ◌%◌, ◌^◌, ◌<◌, List, [], ◌∷◌, ◌++◌, map, length, set, take, drop, Bool, true, false, refl, sym, ap, ◌∙◌, subst, arith, Some, None}
-use Rattle.std.specs.Prelude.{slice_index, All, filter}
-use Rattle.std.proofs.lemmas.List.{set-get_or}
-use mathlib.Core.Option.{some, none as vacant}
-use lib.ListN.{get_elem?}
-use Rattle.atomic_table.specs.Table.{State, Allows, keeps, step}
-use Rattle.atomic_table.proofs.Lists.{set_again, set_else}
-use Rattle.psac_ops.specs.declared.plain.Handle.{Handle}
-use Rattle.psac_slots.specs.Handles.{Member, word_of, IsHandle}
+use Rattle.psac_values.proofs.Terms.{slice_index, filter, set-get_or, some, none as vacant, get_elem?, State, Allows, keeps, step, set_again, set_else, Handle, Member, word_of, OwnedView, StateView, ValueView, claims_of, state_at, value_at, Valued, Rule, drew, Drew, Tells, Loaded, looked, Looked, wrote_word, Wrote, marked, Marked, later, removed, other_owned, other_state, free_word, Lacks, left_of, right_of, met, spent, learned, Learned, rewound, Rewound, gave, Gave, Settled, Splits, Joins}
 use Rattle.psac_slots.specs.Claiming as claiming
 use Rattle.psac_slots.proofs.Acts as slots
 use Rattle.psac_slots.proofs.Rewinds as turns
-use Rattle.psac_values.specs.declared.view.OwnedView.{OwnedView}
-use Rattle.psac_values.specs.declared.view.StateView.{StateView}
-use Rattle.psac_values.specs.declared.view.ValueView.{ValueView}
-use Rattle.psac_values.specs.Valued.{claims_of, state_at, value_at, Valued, Rule}
-use Rattle.psac_values.specs.Steps.{drew, Drew, Tells, Loaded, looked, Looked, wrote_word, Wrote, marked, Marked}
-use Rattle.psac_slots.specs.Handles.{later, removed}
-use Rattle.psac_values.specs.Steps.{other_owned, other_state}
-use Rattle.psac_slots.proofs.Removed.{one_word}
-use Rattle.psac_values.specs.Valued.{free_word}
-use Rattle.psac_values.specs.Steps.{Lacks, left_of, right_of, met, spent, learned, Learned, rewound, Rewound, gave, Gave, Settled}
-use Rattle.atomic_table.specs.Table.{Splits, Joins}
 use Rattle.psac_values.proofs.Keeps.{lacks, at_claims, draws_at, new_lacks, new_low, quiet_at, writes_at, marks_at, apart_places}
 use Rattle.psac_values.proofs.Soles.{nothing_known, all_held, free_state, learns_at, rewinds_at, gives_at}
 use Rattle.psac_values.proofs.Sides.{splits_at, joins_at}
@@ -48,7 +30,7 @@ module _ (fixed count : ℕ) where
     tells : (s : State (Unit {0}) ValueView) → Rule fixed count s.words s.views → get_elem? s.views id ≡ some v → slice_index s.words i < 18446744073709551616 → Tells v i (slice_index s.words i)
     tells s h at fits =
         let mine = at_claims fixed count h.0 h.1 h.2 s.words s.views h.3 id v at in
-        let old = (slots.loads count 0 id i v.claims [] live (record { words = s.words; homes = []; views = map claims_of s.views }) (h.0, h.1, h.2, h.3.claims) refl mine fits).4 in
+        let old = slots.tells count h.0 h.1 h.2 s.words (map claims_of s.views) h.3.claims id v.claims mine live i in
         let f = h.3.each id v at in
         let g = h.3.claims.each id v.claims mine in
         let count_is = g.count_is live in
@@ -99,14 +81,11 @@ module _ (fixed count : ℕ) where
             low = λ x m.
                 let f = h.3.each id v at in
                 let z = f.mine x m in
-                let a = z.low in
-                let b = f.fixed_is live in
                 let d = (h.3.claims.each id v.claims (at_claims fixed count h.0 h.1 h.2 s.words s.views h.3 id v at)).count_is live in
-                (z.long, omega (arith, a, b, d));
+                (z.long, omega (arith, z.low, f.fixed_is live, d));
             states = λ t m.
-                let a = ((h.3.each id v at).states t m).low in
                 let d = (h.3.claims.each id v.claims (at_claims fixed count h.0 h.1 h.2 s.words s.views h.3 id v at)).count_is live in
-                omega (arith, a, d);
+                omega (arith, ((h.3.each id v at).states t m).low, d);
           },
         )
 
@@ -165,10 +144,6 @@ module _ (fixed count : ℕ) where
         refl,
       )
 
-  last_all : (l : List Handle) (x : Handle) → All IsHandle (l ++ x ∷ []) → IsHandle x
-  last_all [] x a = a 0 x (omega arith)
-  last_all (y ∷ l) x a = last_all l x (λ j d b. a (suc j) d (omega arith))
-
   pub gives : (n id i x : ℕ) (v : ValueView) (hs : List (ℕ × Unit {0})) (g : Handle) → v.claims.counter ≡ Some 0 → Member g v.claims.held → g.generation < 4294967295
       → (t : StateView) → Member t v.states → t.of ≡ g → t.word ≡ free_word (later g)
       → i ≡ claiming.place v.claims.count (v.claims.head + length v.claims.list) → x ≡ word_of (later g)
@@ -184,8 +159,7 @@ module _ (fixed count : ℕ) where
         tt,
         (h.0, h.1, h.2 ++ later g ∷ [], subst (λ (z : ℕ × ℕ). Valued fixed count h.0 h.1 (h.2 ++ later g ∷ []) (set s.words z.0 z.1) (set s.views id (gave g v))) (λ j. (spot j, sym is j)) done),
         λ k had below e.
-            let fk = (turns.gives_at count h.0 h.1 h.2 s.words (map claims_of s.views) h.3.claims id v.claims mine p.1 p.2 (sym p.0) k had below).sized in
-            let same = one_word (later g) (later k) (last_all h.2 (later g) done.claims.sized) (last_all h.2 (later k) fk) (sym is ∙ e) in
+            let same = slots.one_given count h.0 h.1 h.2 s.words (map claims_of s.views) h.3.claims id v.claims mine p.1 p.2 (sym p.0) g k has had next below (sym is ∙ e) in
             λ j. (
               record v {
                 claims = record v.claims { list = v.claims.list ++ same j ∷ []; held = removed (same j).slot v.claims.held };

@@ -1,32 +1,9 @@
 -- What a pass of values carries after each step, and what it reads.
 use Rattle.std.proofs.Common.{◌≡◌, ◌≢◌, ◌⊎◌, ℕ, zero, suc, ◌+◌, ◌-◌, ◌*◌, ◌/◌, ◌%◌, ◌<◌, ◌≤◌, List, [], ◌∷◌, ◌++◌, map, length, set, take, drop, Bool, true, false, true≢false, cond, refl, sym, ap, ◌∙◌, subst, inl, inr, ⊎_elim, arith, Option, Some, None, length-append}
-use Rattle.std.specs.Prelude.{filter, not, ◌==◌}
-use Rattle.std.proofs.lemmas.List.{length-map, map-append}
-use Rattle.std.proofs.lemmas.Bool.{cases_lt, eq-eqb, ne_eqb, cases_Bool}
-use Rattle.std.proofs.lemmas.List.Sums.{sum_by-cons, sum_by_push}
-use Rattle.psac_slots.proofs.Sums.{bit}
-use Rattle.psac_slots.proofs.Removed.{member_times, claimed_entry}
-use mathlib.Core.Option.{some}
-use lib.ListN.{get_elem?}
-use Rattle.psac_ops.specs.declared.plain.Handle.{Handle}
-use Rattle.psac_slots.specs.Branches.{stem}
-use Rattle.psac_slots.specs.Handles.{Member, slot_times, later, removed, IsDistinct}
+use Rattle.psac_values.proofs.Terms.{filter, not, ◌==◌, length-map, map-append, cases_lt, eq-eqb, ne_eqb, cases_Bool, sum_by_push, bit, member_times, claimed_entry, some, get_elem?, Handle, stem, Member, slot_times, later, removed, stays, goes, lends, above, comes_back, member_left, member_right, member_cases, member_filter, filter_member, member_map, map_member, rest_is, OwnedView, KnownView, StateView, ValueView, handle_of, value_at, out_word, ways, Meeting, Tells, looked, put, wrote_word, mark, marked, drew, new_owned, new_state, left_of, right_of, joined, learned, rewound, gave, other_owned, other_state, Knows, all_words, rewritten, took, United, IsOut, Carries, same_slot, filtered, found}
 use Rattle.psac_slots.specs.Claiming as claiming
-use Rattle.psac_slots.specs.Divided.{stays, goes, lends, above, comes_back}
-use Rattle.psac_slots.proofs.Pairs.{member_left, member_right, member_cases, member_filter, filter_member, member_map, map_member}
-use Rattle.psac_slots.proofs.Rewinds.{parts, turned_low}
 use Rattle.psac_slots.proofs.Carrying as ring
-use Rattle.psac_values.specs.declared.view.OwnedView.{OwnedView}
-use Rattle.psac_values.specs.declared.view.KnownView.{KnownView}
-use Rattle.psac_values.specs.declared.view.StateView.{StateView}
-use Rattle.psac_values.specs.declared.view.ValueView.{ValueView}
-use Rattle.psac_values.specs.Valued.{handle_of, value_at, out_word, ways, Meeting}
-use Rattle.psac_values.specs.Steps.{Tells, looked, put, wrote_word, mark, marked, drew, new_owned, new_state, left_of, right_of, joined, learned, rewound, gave, other_owned, other_state}
-use Rattle.psac_values.specs.Knowing.{Knows, all_words, rewritten, took, United, IsOut}
-use Rattle.psac_values.specs.Carried.{Carries}
 use Rattle.psac_values.proofs.Keeps.{back_again, mark_of}
-use Rattle.psac_values.proofs.Soles.{filtered}
-use Rattle.psac_slots.proofs.Removed.{found}
 
 module _ (fixed count head room words : ℕ) (v : ValueView) (p : Carries fixed count head room words v) where
   -- the same ring and the same sizes
@@ -106,8 +83,7 @@ module _ (fixed count head room words : ℕ) (v : ValueView) (p : Carries fixed 
           let a = member_times t.of (map handle_of v.states) (map_member handle_of t v.states m) in
           let b = sum_by_push (λ (k : Handle). cond (k.slot == h.slot) 1 0) (map handle_of v.states) h in
           let one : bit (h.slot == h.slot) ≡ 1 = ap bit (eq-eqb h.slot h.slot refl) in
-          let s = ap (λ k. slot_times k (map handle_of v.states)) is in
-          omega (arith, a, b, one, s, once)
+          omega (arith, a, b, one, ap (λ k. slot_times k (map handle_of v.states)) is, once)
 
   pub carries_left : (shared to_right : ℕ → Bool) → Carries fixed count head room words (left_of shared to_right v)
   carries_left shared to_right = renewed (left_of shared to_right v) refl refl refl refl refl refl p.held_is p.out (λ z m. p.mine z (member_filter (stays ways shared to_right) z v.mine m).0)
@@ -138,25 +114,22 @@ module _ (fixed count head room words : ℕ) (v : ValueView) (p : Carries fixed 
     small = p.small;
     settled = p.settled;
     out = λ t m. p.out t (member_filter (other_state x.slot) t v.states m).0;
-    held_is = filtered x.slot v.states ∙ ap (removed x.slot) p.held_is;
+    held_is = filtered handle_of x.slot v.states ∙ ap (removed x.slot) p.held_is;
     mine = λ z m. p.mine z (member_filter (other_owned (v.fixed + x.slot)) z v.mine m).0;
     known = p.known;
   }
 
   pub carries_rewound : (gone : ℕ) → length (take (claiming.counted v.claims.counter) v.claims.list) ≡ gone → Carries fixed count (claiming.turned count (head + gone)) (room - gone) words (rewound v)
   carries_rewound gone e =
-      let a = parts (claiming.counted v.claims.counter) v.claims.list in
-      let b = p.room_is in
-      let c = p.room_fits in
-      let d = p.head_fits in
+      let rest = rest_is v.claims count head room gone p.room_is p.room_fits p.head_fits e in
       record {
         live = p.live;
         fixed_is = p.fixed_is;
         count_is = p.count_is;
         head_is = λ i. claiming.turned (p.count_is i) (p.head_is i + e i);
-        room_is = omega (arith, a, b, e);
-        room_fits = omega (arith, c);
-        head_fits = turned_low count (head + gone) (omega (arith, a, b, c, d, e)) (cases_lt (head + gone) count);
+        room_is = rest.0;
+        room_fits = rest.1;
+        head_fits = rest.3;
         words_is = p.words_is;
         small = p.small;
         settled = p.settled;
@@ -246,17 +219,6 @@ unites_views v w m =
           o;
     }
 
--- two entries of a list without doubles that have one slot are one
-pub distinct_same : (hs : List Handle) (x h : Handle) → IsDistinct hs → Member x hs → Member h hs → x.slot ≡ h.slot → x ≡ h
-distinct_same [] x h d mx mh e = absurd mx
-distinct_same (y ∷ hs) x h d mx mh e =
-    let c : (s : ℕ) → slot_times s (y ∷ hs) ≡ bit (y.slot == s) + slot_times s hs = λ s. sum_by-cons (λ (k : Handle). cond (k.slot == s) 1 0) y hs in
-    let here : (z : Handle) → y.slot ≡ z.slot → Member z hs → ⊥ = λ z is m. let a = member_times z hs m in let t : bit (y.slot == z.slot) ≡ 1 = ap bit (eq-eqb y.slot z.slot is) in let o = d z.slot in let k = c z.slot in omega (arith, a, t, o, k) in
-    ⊎_elim
-    (λ (p : y ≡ x). ⊎_elim (λ q. sym p ∙ q) (λ q. absurd (here h (ap (λ (k : Handle). k.slot) p ∙ e) q)) mh)
-    (λ p. ⊎_elim (λ (q : y ≡ h). absurd (here x (ap (λ (k : Handle). k.slot) q ∙ sym e) p)) (λ q. distinct_same hs x h (λ s. let o = d s in let k = c s in omega (arith, o, k)) p q e) mh)
-    mx
-
 -- the state of a held slot
 pub state_of : (fixed count head room words : ℕ) (v : ValueView) → Carries fixed count head room words v → (x : Handle) → Member x v.claims.held → (t : StateView) × Member t v.states × (t.of ≡ x)
 state_of fixed count head room words v p x m = let q = member_map handle_of x v.states (subst (Member x) (sym p.held_is) m) in (q.0, q.1, q.2)
@@ -276,11 +238,10 @@ told_out fixed count head room words v p m c i n sole t above low is =
     let xs = x.2 in
     let word = t.state st.0 st.1 (omega (arith, is, k, same, xs)) ∙ ((p.out st.0 st.1).0 ∙ ap out_word st.2) in (
       λ e. (x.0, x.1, let g : x.0.generation ≡ m.generation = omega (arith, word, e) in let sl : v.fixed + x.0.slot ≡ m.slot = omega (arith, xs, fx, above) in λ j. record { slot = sl j; generation = g j }),
-      λ (o : IsOut m v). let sl = ap (λ (h : Handle). h.slot) o.2 in let one = distinct_same v.claims.held x.0 o.0 t.once x.1 o.1 (omega (arith, xs, sl, fx)) in let g = ap (λ (h : Handle). h.generation) one in let g' = ap (λ (h : Handle). h.generation) o.2 in omega (arith, word, g, g'),
+      λ (o : IsOut m v). let sl = ap (λ (h : Handle). h.slot) o.2 in let one = same_slot v.claims.held x.0 o.0 t.once x.1 o.1 (omega (arith, xs, sl, fx)) in let g = ap (λ (h : Handle). h.generation) one in let g' = ap (λ (h : Handle). h.generation) o.2 in omega (arith, word, g, g'),
     ))
     (λ (none : slot_times s v.claims.held ≤ 0).
-    let q = t.free c s sole (omega (arith, low, k)) (omega (arith, none)) (omega (arith, is, k)) in
-    let w = q.1 in (
+    let w = (t.free c s sole (omega (arith, low, k)) (omega (arith, none)) (omega (arith, is, k))).1 in (
       λ e. absurd (omega (arith, w, e)),
       λ (o : IsOut m v). let sl = ap (λ (h : Handle). h.slot) o.2 in let a = member_times o.0 v.claims.held o.1 in let same : o.0.slot ≡ s = omega (arith, sl, fx) in let b = ap (λ k. slot_times k v.claims.held) same in absurd (omega (arith, a, b, none)),
     ))
@@ -290,11 +251,8 @@ told_out fixed count head room words v p m c i n sole t above low is =
 pub out_low : (fixed count head room words : ℕ) (v : ValueView) → Carries fixed count head room words v → (m : Handle) → IsOut m v → m.slot < fixed + count
 out_low fixed count head room words v p m o =
     let st = state_of fixed count head room words v p o.0 o.1 in
-    let low = (p.out st.0 st.1).1 in
     let a = ap (λ (h : Handle). h.slot) st.2 in
-    let b = ap (λ (h : Handle). h.slot) o.2 in
-    let fx = p.fixed_is in
-    omega (arith, low, a, b, fx)
+    omega (arith, (p.out st.0 st.1).1, a, ap (λ (h : Handle). h.slot) o.2, p.fixed_is)
 
 marked_one : (s x : ℕ) (t : StateView) (ts us : List StateView) → us ≡ ts → (b : Bool) → (t.of.slot == s) ≡ b → cond (not b) (mark s x t ∷ us) us ≡ cond (not b) (t ∷ ts) ts
 marked_one s x t ts us e true is = e

@@ -1,28 +1,8 @@
 -- Made slots that are given back, one after another.
 use Rattle.std.proofs.Common.{◌≡◌, ◌≢◌, ℕ, suc, ◌+◌, ◌/◌, ◌%◌, ◌<◌, ◌≤◌, ◌++◌, map, Bool, true, false, ltb, refl, sym, ap, ◌∙◌, subst, ⊎_elim, arith, Some, append_assoc, append-nil}
-use Rattle.std.specs.Prelude.{filter, not, ◌==◌, ◌&&◌, ◌||◌}
-use Rattle.std.proofs.lemmas.List.{map-append}
-use Rattle.std.proofs.lemmas.Bool.{ne_eqb, lt-ltb, le-ltb, cases_lt}
-use Rattle.psac_ops.specs.declared.plain.Handle.{Handle}
-use Rattle.psac_slots.specs.Handles.{Member, later, slot_times, removed, IsDistinct}
+use Rattle.psac_values.proofs.Terms.{filter, not, ◌==◌, ◌&&◌, ◌||◌, map-append, ne_eqb, lt-ltb, le-ltb, cases_lt, Handle, Member, later, slot_times, removed, IsDistinct, only, by_slot, accounted_returned, member_map, map_member, member_times, filter_twice, filter_all, filter_none, filter_same, from_next, from_here, only_one, only_none, removed_none, held_from, OwnedView, StateView, ValueView, handle_of, Tells, other_owned, other_state, gave, gave_slot, gave_all, is_fixed, IsOut, Carries, found}
 use Rattle.psac_slots.specs.Claiming as claiming
-use Rattle.psac_slots.specs.Given.{only, by_slot}
-use Rattle.psac_slots.proofs.Carrying.{accounted_returned}
-use Rattle.psac_slots.proofs.Pairs.{member_map, map_member}
-use Rattle.psac_slots.proofs.Removed.{member_times}
-use Rattle.psac_slots.proofs.Given.{filter_twice, filter_all, filter_none, filter_same, from_next, from_here, only_one, only_none, removed_none}
-use Rattle.psac_values.specs.declared.view.OwnedView.{OwnedView}
-use Rattle.psac_values.specs.declared.view.StateView.{StateView}
-use Rattle.psac_values.specs.declared.view.ValueView.{ValueView}
-use Rattle.psac_values.specs.Valued.{handle_of}
-use Rattle.psac_values.specs.Steps.{Tells, other_owned, other_state, gave, gave_slot, gave_all, is_fixed}
-use Rattle.psac_values.specs.Knowing.{IsOut}
-use Rattle.psac_values.specs.Carried.{Carries}
-use Rattle.psac_slots.proofs.Removed.{found}
 use Rattle.psac_values.proofs.Carrying.{told_out}
-
-abbrev pub held_from : ℕ → Handle → Bool
-held_from n h = not (ltb h.slot n)
 
 abbrev pub states_from : ℕ → StateView → Bool
 states_from n t = not (ltb t.of.slot n)
@@ -89,12 +69,10 @@ held_low fixed count head room words v p x m =
 
 pub ends : (fixed count head room words : ℕ) (v : ValueView) → Carries fixed count head room words v → (n : ℕ) → n ≡ count → gave_below n v ≡ gave_all v
 ends fixed count head room words v p n is =
-    let k = p.count_is in
-    let f = p.fixed_is in
     let past : (s : ℕ) → s < count → not (ltb s n) ≡ false = λ s l. ap not (lt-ltb s n (omega (arith, l, is))) in
     λ i. record v {
-      claims = record v.claims { list = v.claims.list ++ map later (by_slot ((is ∙ sym k) i) v.claims.held); held = filter_none (held_from n) v.claims.held (λ x m. past x.slot (held_low fixed count head room words v p x m)) i };
-      mine = filter_same (mine_from v.fixed n) (is_fixed v.fixed) v.mine (λ x m. let l = (p.mine x m).1 in ap (λ b. ltb x.of.slot v.fixed || not b) (lt-ltb x.of.slot (v.fixed + n) (omega (arith, l, is, f))) ∙ or_false (ltb x.of.slot v.fixed)) i;
+      claims = record v.claims { list = v.claims.list ++ map later (by_slot ((is ∙ sym p.count_is) i) v.claims.held); held = filter_none (held_from n) v.claims.held (λ x m. past x.slot (held_low fixed count head room words v p x m)) i };
+      mine = filter_same (mine_from v.fixed n) (is_fixed v.fixed) v.mine (λ x m. let l = (p.mine x m).1 in ap (λ b. ltb x.of.slot v.fixed || not b) (lt-ltb x.of.slot (v.fixed + n) (omega (arith, l, is, p.fixed_is))) ∙ or_false (ltb x.of.slot v.fixed)) i;
       states = filter_none (states_from n) v.states (λ x m. past x.of.slot (p.out x m).1) i;
     }
 
@@ -120,10 +98,8 @@ module _ (fixed count head room words : ℕ) (v : ValueView) (p : Carries fixed 
       let none : slot_times s v.claims.held ≡ 0 = ⊎_elim
       (λ (some : 0 < slot_times s v.claims.held).
       let x = found s v.claims.held some in
-      let xs = x.2 in
-      let fx = p.fixed_is in
       let m : Handle = record { slot = fixed + s; generation = x.0.generation } in
-      let odd = (told_out fixed count head room words v p m c i n sole t (omega arith) (omega (arith, low)) (omega (arith, is))).1 (x.0, x.1, (let e : v.fixed + x.0.slot ≡ fixed + s = omega (arith, xs, fx) in λ j. record { slot = e j; generation = x.0.generation })) in
+      let odd = (told_out fixed count head room words v p m c i n sole t (omega arith) (omega (arith, low)) (omega (arith, is))).1 (x.0, x.1, (let e : v.fixed + x.0.slot ≡ fixed + s = omega (arith, x.2, p.fixed_is) in λ j. record { slot = e j; generation = x.0.generation })) in
       absurd (even (omega (arith, odd))))
       (λ (z : slot_times s v.claims.held ≤ 0). omega (arith, z))
       (cases_lt 0 (slot_times s v.claims.held)) in

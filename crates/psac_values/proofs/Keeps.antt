@@ -1,29 +1,9 @@
 -- Each step of one pass keeps the rule of values.
 use Rattle.std.proofs.Common.{◌≡◌, ◌≢◌, ℕ, zero, suc, ◌+◌, ◌-◌, ◌%◌, ◌^◌, ◌<◌, ◌≤◌, List, [], ◌∷◌, ◌++◌, map, length, set, drop, true, cond, refl, sym, ap, ◌∙◌, subst, inl, inr, ⊎_elim, arith, Option, Some, None, length-set}
-use Rattle.std.specs.Prelude.{sum_by, ◌==◌, IfSome}
-use Rattle.std.proofs.lemmas.List.{map-set, map-append}
-use Rattle.std.proofs.lemmas.List.Sums.{sum_by-append}
-use Rattle.std.proofs.lemmas.Bool.{eq-eqb, ne_eqb, cases_eq, le-ltb, cases_lt}
-use mathlib.Core.Option.{some, some-ne-none, some-injective}
-use lib.ListN.{get_elem?}
-use Rattle.atomic_table.proofs.Lists.{at_map, at_set, set_here, set_else, set_again}
-use Rattle.psac_ops.specs.declared.plain.Handle.{Handle}
-use Rattle.psac_slots.specs.Handles.{Member, slot_times, once_below}
-use Rattle.psac_slots.specs.declared.view.ClaimView.{ClaimView}
+use Rattle.psac_values.proofs.Terms.{sum_by, ◌==◌, IfSome, map-set, map-append, sum_by-append, eq-eqb, ne_eqb, cases_eq, le-ltb, cases_lt, some, some-ne-none, some-injective, get_elem?, at_map, at_set, set_here, set_else, set_again, Handle, Member, slot_times, once_below, ClaimView, Rights, Divided, bit, sum_set, sum_at, sum_two, all_set, member_cases, member_map, map_member, entry_at, later_member, member_times, at_most_once, changes, Unknown, OwnedView, KnownView, StateView, ValueView, state_at, value_at, free_word, claims_of, handle_of, rights_of, ways, Whole, Stated, Meeting, Fits, held_times, Made, Valued, new_owned, new_state, drew, Lacks, put, wrote_word, mark, marked}
 use Rattle.psac_slots.specs.Claiming as claiming
-use Rattle.psac_slots.specs.Divided.{Rights, Divided}
 use Rattle.psac_slots.proofs.Keeps as laws
-use Rattle.psac_slots.proofs.Sums.{bit, sum_set, sum_at, sum_two, all_set}
-use Rattle.psac_slots.proofs.Pairs.{member_cases, member_map, map_member}
-use Rattle.psac_slots.proofs.Removed.{member_times, at_most_once}
-use Rattle.psac_slots.proofs.Dividing.{changes, Unknown}
-use Rattle.psac_values.specs.declared.view.OwnedView.{OwnedView}
-use Rattle.psac_values.specs.declared.view.KnownView.{KnownView}
-use Rattle.psac_values.specs.declared.view.StateView.{StateView}
-use Rattle.psac_values.specs.declared.view.ValueView.{ValueView}
-use Rattle.psac_values.specs.Valued.{state_at, value_at, free_word, claims_of, handle_of, rights_of, ways, Whole, Stated, Meeting, Fits, held_times, Made, Valued}
-use Rattle.psac_values.specs.Steps.{new_owned, new_state, drew, Lacks, put, wrote_word, mark, marked}
-use Rattle.psac_values.proofs.Words.{whole_else, stated_else, fits_else, fits_low, first_only, first_same, entry_at, later_member}
+use Rattle.psac_values.proofs.Words.{whole_else, stated_else, fits_else, fits_low, first_only, first_same}
 
 no_words : (j x : ℕ) → get_elem? {A = Option ℕ} (None ∷ None ∷ None ∷ []) j ≡ some (Some x) → ⊥
 no_words zero x e = let q = some-injective None (Some x) e in absurd (cc)
@@ -187,7 +167,6 @@ module _ (fixed count c head : ℕ) (list : List Handle) (words : List ℕ) (vie
           let y = (c + 1) % 2 ^ 64 in
           let f = h.each id v at in
           let es = claiming.entry v.claims.list c in
-          let o = h.rights.own id (rights_of v) at_rights in
           let unknown : (x : Handle) → Member x es → Unknown ways (map rights_of views) (new_owned v.fixed x) = λ x m j r e.
           let q = at_mapped views j r e in
           let l = subst (λ k. Lacks q.0 (k + x.slot)) (sym fixed_is) (lacks x.slot (undrawn x (drawn_now x m)).0 j q.0 q.1) in
@@ -199,7 +178,7 @@ module _ (fixed count c head : ℕ) (list : List Handle) (words : List ℕ) (vie
           (changes ways (map rights_of views) id (rights_of v) h.rights at_rights live w.mine
           (λ z m. ⊎_elim (λ p. inl (z, p, refl)) (λ q. let x = member_map (new_owned v.fixed) z es q in inr (subst (Unknown ways (map rights_of views)) x.2 (unknown x.0 x.1))) (member_cases z v.mine (map (new_owned v.fixed) es) m))
           (λ z t mz mt is. ⊎_elim
-          (λ p. ⊎_elim (λ q. o.single z t p q is)
+          (λ p. ⊎_elim (λ q. (h.rights.own id (rights_of v) at_rights).single z t p q is)
           (λ q. let x = member_map (new_owned v.fixed) t es q in absurd ((new_lacks x.0 x.1).mine z p (is ∙ ap (λ (k : OwnedView). k.of.slot) (sym x.2))))
           (member_cases t v.mine (map (new_owned v.fixed) es) mt))
           (λ p. let x = member_map (new_owned v.fixed) z es p in ⊎_elim
@@ -243,8 +222,7 @@ module _ (fixed count c head : ℕ) (list : List Handle) (words : List ℕ) (vie
           let w = wrote_word s j x v in
           let f = h.each id v at in
           let o = h.rights.own id (rights_of v) at_rights in
-          let wide = (f.mine w0 has).low in
-          let low : i < length words = let l = h.long in omega (arith, l, wide, small) in
+          let low : i < length words = let l = h.long in omega (arith, l, (f.mine w0 has).low, small) in
           step_to w (set words i x) c head list
           (same_claims (set words i x) (laws.else_at count c head list words (map claims_of views) i x (omega arith) h.claims))
           (changes ways (map rights_of views) id (rights_of v) h.rights at_rights live w.mine
@@ -285,8 +263,6 @@ module _ (fixed count c head : ℕ) (list : List Handle) (words : List ℕ) (vie
           let small = (f.states t0 has).low in
           let low : i < length words = let l = h.long in omega (arith, l, small) in
           let mine = state_held v f t0 has in
-          let whole = h.claims.slots s in
-          let once = at_most_once s count in
           step_to w (set words i x) c head list
           (same_claims (set words i x) (laws.else_at count c head list words (map claims_of views) i x (omega arith) h.claims))
           (same_rights w refl)
@@ -305,17 +281,15 @@ module _ (fixed count c head : ℕ) (list : List Handle) (words : List ℕ) (vie
           (λ z m y l q. omega (arith, q, small))
           (λ t m q.
           let same : t.of.slot ≡ s = omega (arith, q) in
-          let theirs = state_held u g t m in
           let there = ap (λ y. slot_times y u.claims.held) same in
           let two = sum_two (λ (y : ClaimView). slot_times s y.held) (map claims_of views) k id u.claims v.claims n (at_map claims_of views k u e) at_claims in
-          omega (arith, theirs, there, two, mine, whole, once))
+          omega (arith, state_held u g t m, there, two, mine, h.claims.slots s, at_most_once s count))
           g)
           (let old = grows w (λ y. omega arith) v (h.made id v at) in record { mine = old.mine; known = old.known })
           (λ k u n e. grows w (λ y. omega arith) u (h.made k u e))
           (let a = length-set words i x in omega (arith, a))
           (λ k y le e. set_else words i (state_at count y.slot) x (λ q.
           let same : y.slot ≡ s = omega (arith, q) in
-          let none = (undrawn y (later_member list c k y le e)).0 in
           let there = ap (λ z. held_times z views) same in
           let one = sum_at (λ (z : ClaimView). slot_times s z.held) (map claims_of views) id v.claims at_claims in
-          omega (arith, none, there, one, mine)) ∙ h.free k y le e)
+          omega (arith, (undrawn y (later_member list c k y le e)).0, there, one, mine)) ∙ h.free k y le e)

@@ -1,23 +1,7 @@
 -- The words at the start meet the rule of values.
 use Rattle.std.proofs.Common.{◌≡◌, ℕ, zero, suc, ◌+◌, ◌*◌, ◌<◌, ◌≤◌, List, [], ◌∷◌, ◌++◌, map, length, refl, sym, ap, ◌∙◌, subst, ⊎_elim, arith, Option, Some, length-append}
-use Rattle.std.proofs.lemmas.List.{length-map}
-use Rattle.std.proofs.lemmas.Bool.{cases_lt}
-use Rattle.atomic_table.proofs.Lists.{at_longer}
-use mathlib.Core.Option.{some, some-ne-none, some-injective}
-use lib.ListN.{get_elem?}
-use Rattle.psac_ops.specs.declared.plain.Handle.{Handle}
-use Rattle.psac_slots.specs.Handles.{Member, word_of, fresh}
-use Rattle.psac_slots.specs.Divided.{Own, Rights}
+use Rattle.psac_values.proofs.Terms.{length-map, cases_lt, at_longer, some, some-ne-none, some-injective, get_elem?, Handle, Member, word_of, fresh, Own, Rights, length-fresh, at_new, member_cases, OwnedView, KnownView, ValueView, state_at, value_at, rights_of, ways, Whole, Fits, Made, Valued, first_mine, first_view, repeated, first_words, Carries}
 use Rattle.psac_slots.proofs.Opens as slots
-use Rattle.psac_slots.proofs.Removed.{length-fresh}
-use Rattle.psac_slots.proofs.Sums.{at_new}
-use Rattle.psac_slots.proofs.Pairs.{member_cases}
-use Rattle.psac_values.specs.declared.view.OwnedView.{OwnedView}
-use Rattle.psac_values.specs.declared.view.KnownView.{KnownView}
-use Rattle.psac_values.specs.declared.view.ValueView.{ValueView}
-use Rattle.psac_values.specs.Valued.{state_at, value_at, rights_of, ways, Whole, Fits, Made, Valued}
-use Rattle.psac_values.specs.Steps.{first_mine, first_view, repeated, first_words}
-use Rattle.psac_values.specs.Carried.{Carries}
 
 pub length-repeated : (x n : ℕ) → length (repeated x n) ≡ n
 length-repeated x zero = refl
@@ -77,10 +61,7 @@ module _ (fixed count : ℕ) (fits : fixed + count < 4294967296) where
   length_first =
       let a = length-append (map word_of (fresh count)) (repeated 2 count ++ repeated 0 (3 * (fixed + count))) in
       let b = length-append (repeated 2 count) (repeated 0 (3 * (fixed + count))) in
-      let c = ring_length in
-      let d = length-repeated 2 count in
-      let e = length-repeated 0 (3 * (fixed + count)) in
-      omega (arith, a, b, c, d, e)
+      omega (arith, a, b, ring_length, length-repeated 2 count, length-repeated 0 (3 * (fixed + count)))
 
   pub opens : Valued fixed count 0 0 (fresh count) (first_words fixed count) (first_view fixed count ∷ [])
   opens =

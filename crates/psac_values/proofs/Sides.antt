@@ -1,26 +1,8 @@
 -- Splits and joins keep the rule of values.
 use Rattle.std.proofs.Common.{◌≡◌, ◌≢◌, ◌⊎◌, ℕ, ◌+◌, ◌-◌, ◌<◌, ◌≤◌, List, [], ◌∷◌, ◌++◌, map, length, set, Bool, true, false, true≢false, refl, sym, ap, ◌∙◌, subst, inl, inr, ⊎_elim, arith}
-use Rattle.std.specs.Prelude.{sum_by, filter, ◌==◌, cond}
-use Rattle.std.proofs.lemmas.List.{map-set, map-append}
-use Rattle.std.proofs.lemmas.List.Sums.{sum_by-append, sum_by_push}
-use mathlib.Core.Option.{some}
-use lib.ListN.{get_elem?}
-use Rattle.atomic_table.proofs.Lists.{at_map, set_else}
-use Rattle.psac_ops.specs.declared.plain.Handle.{Handle}
-use Rattle.psac_slots.specs.Branches.{is_prefix, stem}
-use Rattle.psac_slots.specs.Handles.{Member, slot_times}
-use Rattle.psac_slots.specs.declared.view.ClaimView.{ClaimView}
+use Rattle.psac_values.proofs.Terms.{sum_by, filter, ◌==◌, cond, map-set, map-append, sum_by-append, sum_by_push, some, get_elem?, at_map, set_else, Handle, is_prefix, stem, Member, slot_times, ClaimView, Divided, Rights, stays, goes, lends, above, comes_back, no_rights, sum_set, all_set, member_cases, member_filter, member_map, one_after, divides, unites, meets, OwnedView, KnownView, ValueView, claims_of, handle_of, rights_of, ways, Whole, Fits, held_times, Made, Valued, now_known, left_of, right_of, met, joined, spent}
 use Rattle.psac_slots.specs.Claiming as claiming
-use Rattle.psac_slots.specs.Divided.{Divided, Rights, stays, goes, lends, above, comes_back, no_rights}
 use Rattle.psac_slots.proofs.Keeps as laws
-use Rattle.psac_slots.proofs.Sums.{sum_set, all_set}
-use Rattle.psac_slots.proofs.Pairs.{member_cases, member_filter, member_map, one_after}
-use Rattle.psac_slots.proofs.Dividing.{divides, unites, meets}
-use Rattle.psac_values.specs.declared.view.OwnedView.{OwnedView}
-use Rattle.psac_values.specs.declared.view.KnownView.{KnownView}
-use Rattle.psac_values.specs.declared.view.ValueView.{ValueView}
-use Rattle.psac_values.specs.Valued.{claims_of, handle_of, rights_of, ways, Whole, Fits, held_times, Made, Valued}
-use Rattle.psac_values.specs.Steps.{now_known, left_of, right_of, met, joined, spent}
 use Rattle.psac_values.proofs.Keeps.{at_mapped, made_more, held_after}
 
 module _ (fixed count c head : ℕ) (list : List Handle) (words : List ℕ) (views : List ValueView) (h : Valued fixed count c head list words views) where
@@ -105,11 +87,10 @@ module _ (fixed count c head : ℕ) (list : List Handle) (words : List ℕ) (vie
         let there : get_elem? mid other ≡ some w = set_else views id other m two ∙ was in
         let after = set mid other spent in
         let held : (s : ℕ) → held_times s after ≡ held_times s views = λ s.
-        let x = held_after fixed count c head list words views h id v at m s in
         let y = subst (λ vs. sum_by (λ (u : ClaimView). slot_times s u.held) vs + slot_times s w.claims.held ≡ held_times s mid + 0) (sym (map-set claims_of mid other spent))
         (sum_set (λ (u : ClaimView). slot_times s u.held) (map claims_of mid) other w.claims claiming.spent (at_map claims_of mid other w there)) in
         let a = sum_by-append (λ (q : Handle). cond (q.slot == s) 1 0) v.claims.held w.claims.held in
-        omega (arith, x, y, a) in
+        omega (arith, held_after fixed count c head list words views h id v at m s, y, a) in
         let more : (u : ValueView) → Made fixed views u → Made fixed after u = λ u. made_more fixed views after u (λ s p. let a = held s in omega (arith, a, p)) in
         let mv = more v (h.made id v at) in
         let mw = more w (h.made other w was) in

@@ -1,39 +1,14 @@
 -- The steps of a sole pass keep the rule of values.
-use Rattle.std.proofs.Common.{◌≡◌, ◌≢◌, ℕ, zero, suc, ◌+◌, ◌-◌, ◌*◌, ◌<◌, ◌≤◌, List, [], ◌∷◌, ◌++◌, map, length, set, take, drop, Bool, true, false, true≢false, cond, refl, sym, ap, ◌∙◌, subst, inl, ⊎_elim, arith, Some, length-set, mod-lt}
-use Rattle.std.specs.Prelude.{filter, not, ◌==◌}
-use Rattle.std.proofs.lemmas.Bool.{eq-eqb, lt-ltb}
-use mathlib.Core.Option.{some}
-use lib.ListN.{get_elem?}
-use Rattle.atomic_table.proofs.Lists.{at_map, set_else}
-use Rattle.psac_ops.specs.declared.plain.Handle.{Handle}
-use Rattle.psac_slots.specs.Handles.{Member, word_of, later, slot_times, removed, once_below}
-use Rattle.psac_slots.specs.declared.view.ClaimView.{ClaimView}
+use Rattle.std.proofs.Common.{◌≡◌, ◌≢◌, ℕ, zero, suc, ◌+◌, ◌-◌, ◌*◌, ◌<◌, ◌≤◌, List, [], ◌∷◌, ◌++◌, map, length, set, take, drop, true, false, true≢false, refl, sym, ap, ◌∙◌, subst, inl, ⊎_elim, arith, Some, length-set, mod-lt}
+use Rattle.psac_values.proofs.Terms.{◌==◌, eq-eqb, lt-ltb, some, get_elem?, at_map, set_else, Handle, Member, word_of, later, slot_times, removed, once_below, ClaimView, bit, at_drop, at_new, member_filter, filtered, found, removed_else, changes, off, KnownView, StateView, ValueView, state_at, free_word, claims_of, handle_of, rights_of, ways, held_times, Made, Valued, learned, rewound, other_owned, other_state, gave}
 use Rattle.psac_slots.specs.Claiming as claiming
 use Rattle.psac_slots.proofs.Rewinds as turns
-use Rattle.psac_slots.proofs.Sums.{bit, at_drop, at_new}
-use Rattle.psac_slots.proofs.Pairs.{member_filter}
-use Rattle.psac_slots.proofs.Removed.{found, removed_else}
-use Rattle.psac_slots.proofs.Dividing.{changes, off}
-use Rattle.psac_values.specs.declared.view.KnownView.{KnownView}
-use Rattle.psac_values.specs.declared.view.StateView.{StateView}
-use Rattle.psac_values.specs.declared.view.ValueView.{ValueView}
-use Rattle.psac_values.specs.Valued.{state_at, free_word, claims_of, handle_of, rights_of, ways, held_times, Made, Valued}
-use Rattle.psac_values.specs.Steps.{learned, rewound, other_owned, other_state, gave}
 use Rattle.psac_values.proofs.Words.{whole_else, stated_else, fits_low}
 use Rattle.psac_values.proofs.Keeps.{at_claims, at_rights, held_after, step_to, same_rights, grows}
 
 none_in : {A : Type 0} (l : List A) → ((x : A) → Member x l → ⊥) → l ≡ []
 none_in [] f = refl
 none_in (x ∷ l) f = absurd (f x (inl refl))
-
-filtered_one : (s : ℕ) (t : StateView) (ts : List StateView) → map handle_of (filter (other_state s) ts) ≡ removed s (map handle_of ts) → (b : Bool) → (t.of.slot == s) ≡ b
-    → map handle_of (cond (not b) (t ∷ filter (other_state s) ts) (filter (other_state s) ts)) ≡ cond (not b) (t.of ∷ removed s (map handle_of ts)) (removed s (map handle_of ts))
-filtered_one s t ts r true e = r
-filtered_one s t ts r false e = ap (λ l. t.of ∷ l) r
-
-pub filtered : (s : ℕ) (ts : List StateView) → map handle_of (filter (other_state s) ts) ≡ removed s (map handle_of ts)
-filtered s [] = refl
-filtered s (t ∷ ts) = filtered_one s t ts (filtered s ts) (t.of.slot == s) refl
 
 pub dropped_at : (l : List Handle) (c : ℕ) (x : Handle) → Member x (drop c l) → (k : ℕ) × (c ≤ k) × (get_elem? l k ≡ some x)
 dropped_at [] zero x m = absurd m
@@ -71,10 +46,8 @@ module _ (fixed count c head : ℕ) (list : List Handle) (words : List ℕ) (vie
   -- the state of a slot that a sole pass doesn't hold says that it is free
   pub free_state : (s : ℕ) → s < count → slot_times s v.claims.held ≡ 0 → (g : ℕ) × (get_elem? words (state_at count s) ≡ some (2 * g))
   free_state s low none =
-      let a = all_held s in
-      let o = h.claims.slots s in
       let one : once_below s count ≡ 1 = ap bit (lt-ltb s count low) in
-      let x = found s (drop c list) (omega (arith, a, o, one, none)) in
+      let x = found s (drop c list) (omega (arith, all_held s, h.claims.slots s, one, none)) in
       let k = dropped_at list c x.0 x.1 in
       (x.0.generation, ap (λ i. get_elem? words (state_at count i)) (sym x.2) ∙ h.free k.0 x.0 k.1 k.2)
 
@@ -117,11 +90,8 @@ module _ (fixed count c head : ℕ) (list : List Handle) (words : List ℕ) (vie
       let f = h.each id v at in
       let o = h.rights.own id (rights_of v) (at_rights fixed count c head list words views h id v at) in
       let st = f.states t mt in
-      let low = st.low in
       let same = ap (λ (z : Handle). z.slot) of in
-      let m = mod-lt (head + length list) {m = count} (omega (arith, low)) in
-      let short : i ≤ count = omega (arith, m) in
-      let fx = f.fixed_is live in
+      let short : i ≤ count = omega (arith, mod-lt (head + length list) {m = count} (omega (arith, st.low))) in
       step_to fixed count c head list words views h id v at w (set words i y) c head (list ++ later x ∷ [])
       (turns.gives_at count c head list words (map claims_of views) h.claims id v.claims mine_at live empty none x has next)
       (changes ways (map rights_of views) id (rights_of v) h.rights (at_rights fixed count c head list words views h id v at) live w.mine
@@ -132,18 +102,16 @@ module _ (fixed count c head : ℕ) (list : List Handle) (words : List ℕ) (vie
         mine = λ z mz. whole_else fixed count words i y z.of z.words (λ j k q. omega (arith, q, short)) (f.mine z (member_filter (other_owned (v.fixed + x.slot)) z v.mine mz).0);
         known = λ e me. absurd (none_shared e me);
         states = λ z mz. stated_else fixed count words i y z (λ q. omega (arith, q, short)) (f.states z (member_filter (other_state x.slot) z v.states mz).0);
-        held_is = filtered x.slot v.states ∙ ap (removed x.slot) f.held_is;
+        held_is = filtered handle_of x.slot v.states ∙ ap (removed x.slot) f.held_is;
         met = f.met;
       }
       (λ j u n e. fits_low fixed count words i y u short (h.each j u e))
       (record {
         mine = λ z mz g.
             let q = member_filter (other_owned (v.fixed + x.slot)) z v.mine mz in
-            let p = (h.made id v at).mine z q.0 g in
-            let apart : z.of.slot - fixed ≢ x.slot = λ e. off (z.of.slot == v.fixed + x.slot) q.1 (eq-eqb z.of.slot (v.fixed + x.slot) (omega (arith, e, g, fx))) in
+            let apart : z.of.slot - fixed ≢ x.slot = λ e. off (z.of.slot == v.fixed + x.slot) q.1 (eq-eqb z.of.slot (v.fixed + x.slot) (omega (arith, e, g, f.fixed_is live))) in
             let a = held_after fixed count c head list words views h id v at w (z.of.slot - fixed) in
-            let b = removed_else (z.of.slot - fixed) x.slot v.claims.held apart in
-            omega (arith, a, b, p);
+            omega (arith, a, removed_else (z.of.slot - fixed) x.slot v.claims.held apart, (h.made id v at).mine z q.0 g);
         known = λ e me g. absurd (none_shared e me);
       })
       (λ j u n e. dead_made (set views id w) j u n e)

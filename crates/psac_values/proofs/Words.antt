@@ -1,17 +1,6 @@
 -- Stores beside the words of a view, and entries of a free list.
-use Rattle.std.proofs.Common.{◌≡◌, ◌≢◌, ℕ, zero, suc, ◌<◌, ◌≤◌, List, [], ◌∷◌, set, take, drop, sym, ap, ◌∙◌, inl, inr, ⊎_elim, arith, Option, Some}
-use mathlib.Core.Option.{some, some-ne-none, some-injective}
-use lib.ListN.{get_elem?}
-use Rattle.atomic_table.proofs.Lists.{set_else}
-use Rattle.psac_ops.specs.declared.plain.Handle.{Handle}
-use Rattle.psac_slots.specs.Handles.{Member}
-use Rattle.psac_slots.specs.Claiming.{entry}
-use Rattle.psac_slots.proofs.Sums.{at_less}
-use Rattle.psac_values.specs.declared.view.OwnedView.{OwnedView}
-use Rattle.psac_values.specs.declared.view.KnownView.{KnownView}
-use Rattle.psac_values.specs.declared.view.StateView.{StateView}
-use Rattle.psac_values.specs.declared.view.ValueView.{ValueView}
-use Rattle.psac_values.specs.Valued.{state_at, value_at, Whole, Stated, Fits}
+use Rattle.std.proofs.Common.{◌≡◌, ◌≢◌, ℕ, ◌<◌, ◌≤◌, List, [], ◌∷◌, set, take, sym, ◌∙◌, inl, ⊎_elim, arith, Option, Some}
+use Rattle.psac_values.proofs.Terms.{set_else, Handle, Member, at_less, OwnedView, KnownView, StateView, ValueView, state_at, value_at, Whole, Stated, Fits}
 
 module _ (fixed count : ℕ) (words : List ℕ) (i x : ℕ) where
   pub whole_else : (h : Handle) (ws : List (Option ℕ)) → ((j : ℕ) → j < 3 → value_at count h.slot j ≢ i) → Whole fixed count words h ws → Whole fixed count (set words i x) h ws
@@ -50,16 +39,3 @@ first_only x (y ∷ l) m = ⊎_elim (λ e. inl e) (λ b. absurd b) m
 pub first_same : {A : Type 0} (x y : A) (l : List A) → Member x (take 1 l) → Member y (take 1 l) → x ≡ y
 first_same x y [] m n = absurd m
 first_same x y (z ∷ l) m n = ⊎_elim (λ e. ⊎_elim (λ f. sym e ∙ f) (λ b. absurd b) n) (λ b. absurd b) m
-
-pub entry_at : (l : List Handle) (n : ℕ) (x : Handle) → Member x (entry l n) → get_elem? l n ≡ some x
-entry_at [] zero x m = absurd m
-entry_at [] (suc n) x m = absurd m
-entry_at (y ∷ l) zero x m = ⊎_elim (λ e. ap some e) (λ b. absurd b) m
-entry_at (y ∷ l) (suc n) x m = entry_at l n x m
-
-pub later_member : (l : List Handle) (c k : ℕ) (x : Handle) → c ≤ k → get_elem? l k ≡ some x → Member x (drop c l)
-later_member [] c k x le e = absurd (some-ne-none x (sym e))
-later_member (y ∷ l) zero zero x le e = inl (some-injective y x e)
-later_member (y ∷ l) zero (suc k) x le e = inr (later_member l zero k x (omega arith) e)
-later_member (y ∷ l) (suc c) zero x le e = absurd (omega arith)
-later_member (y ∷ l) (suc c) (suc k) x le e = later_member l c k x (omega arith) e

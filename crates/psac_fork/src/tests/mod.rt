@@ -2,5 +2,4 @@
 mod marks;
 mod passes;
 mod readers;
-mod slots;
 mod values;

@@ -1,8 +1,5 @@
 use Rattle.std.proofs.Common.{◌≡◌, subst, ◌∙◌, refl, arith}
-use Rattle.psac_slots.specs.Handles.{Member}
-use Rattle.psac_marks.specs.declared.view.MarksView.{MarksView}
-use Rattle.psac_marks.specs.Marked.{Place, places}
-use Rattle.psac_marks.specs.Passes.{RaisedOne}
+use Rattle.psac_marks.proofs.Terms.{Member, MarksView, Place, places, RaisedOne}
 use Rattle.psac_marks.proofs.Climbing.{begins, stands, goes_up, ends}
 use Rattle.psac_marks.proofs.marks.climb.Goals as goal
 
@@ -13,9 +10,7 @@ pub raise_one-requires-clause-low : goal.raise_one-requires-clause-low
 raise_one-requires-clause-low c =
     let m = c.loop-above.invariant.2 in
     let s = stands _ _ _ _ m in
-    let low = c.requires.low s.0 (subst (λ (u : MarksView). Member s.0 (places u)) m.view s.4) in
-    let slot = s.3 in
-    omega (arith, low, slot)
+    omega (arith, c.requires.low s.0 (subst (λ (u : MarksView). Member s.0 (places u)) m.view s.4), s.3)
 
 pub raise_one-requires-clause-has : goal.raise_one-requires-clause-has
 raise_one-requires-clause-has c = let s = stands _ _ _ _ c.loop-above.invariant.2 in (s.0, s.4, s.3)
@@ -25,8 +20,7 @@ raise_one-requires-clause-kept c = (stands _ _ _ _ c.loop-above.invariant.2).5
 
 pub loop-above-smaller : goal.loop-above-smaller
 loop-above-smaller c =
-    let m = c.loop-above.invariant.2 in
-    (goes_up _ _ _ _ m c.raise_one.new.seat.me.0 c.in-Some.above c.in-Some.ensures.raised).1
+    (goes_up _ _ _ _ c.loop-above.invariant.2 c.raise_one.new.seat.me.0 c.in-Some.above c.in-Some.ensures.raised).1
 
 pub loop-above-preserved : goal.loop-above-preserved
 loop-above-preserved c =
@@ -36,5 +30,4 @@ loop-above-preserved c =
 
 pub returns-clause-raised : goal.returns-clause-raised
 returns-clause-raised c =
-    let m = c.loop-above.invariant.2 in
-    ends _ _ _ _ m c.raise_one.new.seat.me.0 c.requires.idle (subst (λ o. (e : Place) → Member e (places c.loop-above.seat.me.0) → e.node.slot ≡ c.loop-above.slot → RaisedOne c.loop-above.seat.me.0 e o c.raise_one.new.seat.me.0) c.in_default.is c.raise_one.ensures.raised)
+    ends _ _ _ _ c.loop-above.invariant.2 c.raise_one.new.seat.me.0 c.requires.idle (subst (λ o. (e : Place) → Member e (places c.loop-above.seat.me.0) → e.node.slot ≡ c.loop-above.slot → RaisedOne c.loop-above.seat.me.0 e o c.raise_one.new.seat.me.0) c.in_default.is c.raise_one.ensures.raised)

@@ -1,10 +1,5 @@
 use Rattle.std.proofs.Common.{ℕ, List, map}
-use Rattle.atomic_table.proofs.Lists.{at_map}
-use Rattle.psac_ops.specs.declared.plain.Handle.{Handle}
-use Rattle.psac_slots.proofs.Kept.{promised, unheld}
-use Rattle.psac_values.specs.declared.view.ValueView.{ValueView}
-use Rattle.psac_values.specs.Valued.{Valued, claims_of, rights_of}
-use Rattle.psac_values.specs.Promised.{Promised}
+use Rattle.psac_values.proofs.Terms.{at_map, Handle, promised, unheld, ValueView, Valued, claims_of, rights_of, Promised}
 use Rattle.psac_values.proofs.Keeps.{lacks}
 use Rattle.psac_values.proofs.law.known_words_stand.Goals as goal
 

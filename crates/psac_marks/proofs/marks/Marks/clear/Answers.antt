@@ -1,8 +1,5 @@
 use Rattle.std.proofs.Common.{ℕ, ◌<◌, sym, ap, subst, ◌∙◌, arith}
-use Rattle.psac_ops.specs.declared.plain.Handle.{Handle}
-use Rattle.psac_marks.specs.declared.view.MarksView.{MarksView}
-use Rattle.psac_marks.specs.Marked.{own_place, HasOwn}
-use Rattle.psac_marks.specs.Passes.{Carries, Owns, Bare}
+use Rattle.psac_marks.proofs.Terms.{Handle, MarksView, own_place, HasOwn, Carries, Owns, Bare}
 use Rattle.psac_marks.proofs.Parts.{place_own}
 use Rattle.psac_marks.proofs.Keeps.{own_alone}
 use Rattle.psac_marks.proofs.Families.{bare_below}
@@ -17,15 +14,13 @@ store-requires c =
     let v = c.pass.inside.seat.me.0 in
     let x = c.args.node.slot in
     let t = ap (λ p. p.table) is ∙ (c.requires.table ∙ sym c.self.view_is) in
-    let w = ap (λ z. z.words) t in
-    let z = p.words_is in
     let o = subst (λ k. Owns k c.args.node) (sym (ap (λ p. p.knows) is)) c.requires.own in
     let own : HasOwn v.own x = (o.0, o.1, ap (λ (h : Handle). h.slot) o.2) in
     let low = subst (λ k. k < c.pass.inside.nodes) own.2 (p.low (own_place v.claims.branch o.0) (place_own v o.0 o.1)) in
     let n = p.nodes_is in
     let bare = subst (λ k. Bare k x) (sym (ap (λ p. p.knows) is)) c.requires.bare in (
       t,
-      omega (arith, w, z, low),
+      omega (arith, ap (λ z. z.words) t, p.words_is, low),
       clears _ _ _ v c.pass.inside.seat.me.1 p.live x _ (omega (arith, low, n))
           (λ s h at. (own_alone _ s.words s.views h _ v at x own, bare_below _ s.words s.views h _ v at p.live x own bare)) (omega (arith, n)),
     )
@@ -34,6 +29,5 @@ pub invariant_of-pass : goal.invariant_of-pass
 invariant_of-pass c =
     let p = c.pass.invariant.1 in
     let s = c.store.ensures in
-    let n = p.nodes_is in
-    let e = s.2 c.args.node.slot (omega (arith, n)) in
+    let e = s.2 c.args.node.slot (omega (arith, p.nodes_is)) in
     (ap (λ m. m.1) e ∙ c.pass.invariant.0, subst (λ (x : ℕ × MarksView). Carries c.pass.inside.nodes c.pass.inside.head c.pass.inside.room x.0 x.1) (λ j. (ap (λ z. z.words) (sym s.0) j, ap (λ m. m.0) (sym e) j)) (carries_cleared _ _ _ _ c.pass.inside.seat.me.0 p c.args.node.slot))

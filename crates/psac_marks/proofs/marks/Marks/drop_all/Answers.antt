@@ -1,12 +1,5 @@
 use Rattle.std.proofs.Common.{◌≡◌, ◌≢◌, ◌<◌, [], ◌∷◌, ◌++◌, sym, ap, subst, ◌∙◌, ⊎_elim, arith, append_assoc}
-use Rattle.std.specs.Prelude.{◌==◌}
-use Rattle.std.proofs.lemmas.Bool.{cases_eq}
-use Rattle.psac_slots.specs.Handles.{Member, slot_times}
-use Rattle.psac_slots.specs.Claiming.{times}
-use Rattle.psac_slots.proofs.Sums.{bit}
-use Rattle.psac_slots.proofs.Removed.{found}
-use Rattle.psac_marks.specs.declared.view.MarksView.{MarksView}
-use Rattle.psac_marks.specs.Steps.{detached}
+use Rattle.psac_marks.proofs.Terms.{◌==◌, cases_eq, Member, slot_times, times, bit, found, MarksView, detached}
 use Rattle.psac_marks.proofs.Parts.{times_push, bit_same, bit_other}
 use Rattle.psac_marks.proofs.Counted.{times_both}
 use Rattle.psac_marks.proofs.GivingAll.{held_below}
@@ -61,8 +54,6 @@ returns-clause-all c = λ x p.
     let i = c.loop-slot.invariant in
     let is = ap (λ p. p.knows) c.pass.view_is in
     let f = found x c.args.pass.now.knows.claims.held p in
-    let slot = f.2 in
     let l = held_below _ _ _ _ c.pass.inside.seat.me.0 c.pass.invariant.1 f.0 (subst (λ (u : MarksView). Member f.0 u.claims.held) (sym is) f.1) in
     let a = c.loop-slot-test.false in
-    let b = c.loop-slot.auto.slot-end in
-    subst (λ (u : MarksView). 0 < times x u.dropped) (sym i.1.1) (i.1.3 x (omega (arith, l, a, b, slot)) p)
+    subst (λ (u : MarksView). 0 < times x u.dropped) (sym i.1.1) (i.1.3 x (omega (arith, l, a, c.loop-slot.auto.slot-end, f.2)) p)

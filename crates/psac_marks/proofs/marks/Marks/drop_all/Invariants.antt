@@ -1,7 +1,5 @@
 use Rattle.std.proofs.Common.{◌≡◌, ℕ, ◌<◌, List, ◌++◌}
-use Rattle.psac_slots.specs.Handles.{slot_times}
-use Rattle.psac_slots.specs.Claiming.{times}
-use Rattle.psac_marks.specs.Steps.{dropping}
+use Rattle.psac_marks.proofs.Terms.{slot_times, times, dropping}
 use Rattle.psac_marks.proofs.marks.Marks.drop_all.Given as goal
 
 abbrev pub invariant-loop-slot : goal.invariant-loop-slot

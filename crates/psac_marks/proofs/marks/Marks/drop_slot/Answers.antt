@@ -1,13 +1,6 @@
 use Rattle.std.proofs.Common.{◌≡◌, ℕ, Option, Some, None, true, true≢false, sym, ap, subst, ◌∙◌, inr, arith}
 use Rattle.std.specs.Option.{is_some}
-use Rattle.std.specs.Prelude.{IfSome}
-use Rattle.psac_ops.specs.declared.plain.Handle.{Handle}
-use Rattle.psac_slots.specs.Handles.{Member}
-use Rattle.psac_slots.proofs.Removed.{member_times}
-use Rattle.psac_marks.specs.declared.view.MarksView.{MarksView}
-use Rattle.psac_marks.specs.Marked.{HasOwn}
-use Rattle.psac_marks.specs.Steps.{detached}
-use Rattle.psac_marks.specs.Passes.{Carries, Owns}
+use Rattle.psac_marks.proofs.Terms.{IfSome, Handle, Member, member_times, MarksView, HasOwn, detached, Carries, Owns}
 use Rattle.psac_marks.proofs.Acts.{detaches}
 use Rattle.psac_marks.proofs.Carrying.{carries_detached}
 use Rattle.psac_marks.proofs.marks.Marks.drop_slot.Goals as goal
@@ -29,20 +22,16 @@ load-requires c =
     let p = c.pass.invariant.1 in
     let v = c.pass.inside.seat.me.0 in
     let t = ap (λ p. p.table) is ∙ (c.requires.table ∙ sym c.self.view_is) in
-    let w = ap (λ z. z.words) t in
-    let z = p.words_is in
     let n = p.nodes_is in
     let k = ap (λ p. p.knows.claims.count) is in
-    let b = c.requires.below in
     let o = subst (Here c.args.slot) (sym (ap (λ p. p.knows) is)) (some_of c.generation_out.result _ (sym c.is_some.ensures ∙ c.if-is_some.true) c.generation_out.ensures.out) in
-    (t, omega (arith, w, z, n, k, b), detaches _ _ _ v c.pass.inside.seat.me.1 p.live c.args.slot _ (owned c.args.slot v o) (omega (arith, n)))
+    (t, omega (arith, ap (λ z. z.words) t, p.words_is, n, k, c.requires.below), detaches _ _ _ v c.pass.inside.seat.me.1 p.live c.args.slot _ (owned c.args.slot v o) (omega (arith, n)))
 
 pub invariant_of-pass : goal.invariant_of-pass
 invariant_of-pass c =
     let p = c.pass.invariant.1 in
     let s = c.load.ensures in
-    let n = p.nodes_is in
-    let e = s.2 c.args.slot (omega (arith, n)) in
+    let e = s.2 c.args.slot (omega (arith, p.nodes_is)) in
     (ap (λ m. m.1) e ∙ c.pass.invariant.0, subst (λ (x : ℕ × MarksView). Carries c.pass.inside.nodes c.pass.inside.head c.pass.inside.room x.0 x.1) (λ j. (ap (λ z. z.words) (sym s.0) j, ap (λ m. m.0) (sym e) j)) (carries_detached _ _ _ _ c.pass.inside.seat.me.0 p c.args.slot))
 
 pub returns-then-is_some-clause-dropped : goal.returns-then-is_some-clause-dropped

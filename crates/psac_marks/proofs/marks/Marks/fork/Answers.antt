@@ -1,12 +1,5 @@
 use Rattle.std.proofs.Common.{ℕ, ◌≡◌, ◌<◌, length, sym, ap, subst, ◌∙◌, arith}
-use Rattle.psac_slots.specs.Handles.{Member}
-use Rattle.psac_slots.specs.Claiming.{times}
-use Rattle.psac_marks.specs.declared.view.SharedView.{SharedView}
-use Rattle.psac_marks.specs.declared.view.MarksView.{MarksView}
-use Rattle.psac_marks.specs.Marked.{HasOwn}
-use Rattle.psac_marks.specs.Steps.{left_of, right_of, goes_over}
-use Rattle.psac_marks.specs.Passes.{Carries, Parted}
-use Rattle.std.specs.Prelude.{not}
+use Rattle.psac_marks.proofs.Terms.{not, Member, times, SharedView, MarksView, HasOwn, left_of, right_of, goes_over, Carries, Parted}
 use Rattle.psac_marks.proofs.Acts.{loads}
 use Rattle.psac_marks.proofs.Splitting.{splits_at, left_dropped, right_dropped, side_kept}
 use Rattle.psac_marks.proofs.Handed.{carries_left, carries_right}
@@ -16,9 +9,7 @@ pub load-requires : goal.load-requires
 load-requires g c =
     let p = c.pass.invariant.1 in
     let t = ap (λ p. p.table) c.pass.view_is ∙ (c.requires.table ∙ sym c.self.view_is) in
-    let w = ap (λ z. z.words) t in
-    let z = p.words_is in
-    (t, omega (arith, w, z), loads _ _ _ c.pass.inside.seat.me.0 c.pass.inside.seat.me.1 p.live _)
+    (t, omega (arith, ap (λ z. z.words) t, p.words_is), loads _ _ _ c.pass.inside.seat.me.0 c.pass.inside.seat.me.1 p.live _)
 
 pub split_seat-other-requires : goal.split_seat-other-requires
 split_seat-other-requires g c =
@@ -26,17 +17,14 @@ split_seat-other-requires g c =
     let p = c.pass.invariant.1 in
     let n = c.load.ensures in
     let t = ap (λ p. p.table) is ∙ (c.requires.table ∙ sym c.self.view_is) in
-    let w = ap (λ z. z.words) t in
-    let z = p.words_is in
     let short = ap (λ p. length p.knows.claims.branch) is in
-    let l = c.requires.short in
     let k : c.pass.inside.seat.me.0 ≡ _ = ap (λ p. p.knows) is in
     let m = ap (λ m. m.0) n.2.same in
     let short2 = ap (λ (v : MarksView). length v.claims.branch) m in (
       n.0 ∙ t,
-      omega (arith, w, z),
+      omega (arith, ap (λ z. z.words) t, p.words_is),
       λ s h at. splits_at g.D.MarksSplit.node_shared g.D.MarksSplit.node_right _ s.words s.views h _ c.load.new.seat.me.0 at (subst (Parted g.D.MarksSplit.node_shared g.D.MarksSplit.node_right) (sym (m ∙ k)) c.requires.parted)
-          (ap (λ (v : MarksView). v.claims.live) m ∙ p.live) (ap (λ (v : MarksView). v.claims.over) m ∙ (ap (λ p. p.knows.claims.over) is ∙ c.requires.room)) (omega (arith, short, short2, l)) (ap (λ (v : MarksView). v.climb) m ∙ p.climb),
+          (ap (λ (v : MarksView). v.claims.live) m ∙ p.live) (ap (λ (v : MarksView). v.claims.over) m ∙ (ap (λ p. p.knows.claims.over) is ∙ c.requires.room)) (omega (arith, short, short2, c.requires.short)) (ap (λ (v : MarksView). v.climb) m ∙ p.climb),
     )
 
 pub invariant_of-result : goal.invariant_of-result

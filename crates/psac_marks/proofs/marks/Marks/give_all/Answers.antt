@@ -1,12 +1,5 @@
 use Rattle.std.proofs.Common.{◌≡◌, suc, ◌+◌, ◌<◌, map, sym, ap, subst, ◌∙◌, ⊎_elim, arith}
-use Rattle.psac_ops.specs.declared.plain.Handle.{Handle}
-use Rattle.psac_slots.specs.Handles.{Member, slot_times}
-use Rattle.psac_slots.specs.Claiming.{times, Accounted}
-use Rattle.psac_slots.proofs.Pairs.{member_filter}
-use Rattle.psac_marks.specs.declared.view.MarksView.{MarksView}
-use Rattle.psac_marks.specs.Marked.{handle_of}
-use Rattle.psac_marks.specs.Steps.{Holds, dropping, rewound, released}
-use Rattle.psac_marks.specs.Passes.{Childless}
+use Rattle.psac_marks.proofs.Terms.{Handle, Member, slot_times, times, Accounted, member_filter, MarksView, handle_of, Holds, dropping, rewound, released, Childless}
 use Rattle.psac_marks.proofs.GivingAll.{held_from, gave_below, begins, gives_held, gives_none, all_childless, ends, held_below, ready}
 use Rattle.psac_marks.proofs.marks.Marks.give_all.Goals as goal
 
@@ -73,5 +66,4 @@ returns-clause-gave c =
     let k = ap (λ (u : MarksView). u.claims.count) (ap (λ p. p.knows) c.pass.view_is ∙ e) in
     let n = c.pass.invariant.1.nodes_is in
     let a = c.loop-slot-test.false in
-    let b = c.loop-slot.auto.slot-end in
-    i.2 ∙ ends (dropping i.0 (rewound c.args.pass.now.knows)) i.1 c.loop-slot.slot (omega (arith, a, b, n, k))
+    i.2 ∙ ends (dropping i.0 (rewound c.args.pass.now.knows)) i.1 c.loop-slot.slot (omega (arith, a, c.loop-slot.auto.slot-end, n, k))

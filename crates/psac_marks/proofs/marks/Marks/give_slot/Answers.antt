@@ -1,9 +1,5 @@
 use Rattle.std.proofs.Common.{refl, sym, ap, subst, ◌∙◌, inr}
-use Rattle.psac_ops.specs.declared.plain.Handle.{Handle}
-use Rattle.psac_slots.specs.Passes.{Pass}
-use Rattle.psac_marks.specs.declared.view.MarksView.{MarksView}
-use Rattle.psac_marks.specs.Steps.{released}
-use Rattle.psac_marks.specs.Passes.{Childless}
+use Rattle.psac_marks.proofs.Terms.{Handle, Pass, MarksView, released, Childless}
 use Rattle.psac_marks.proofs.marks.Marks.give_slot.Goals as goal
 
 pub put_back-requires-clause-children : goal.put_back-requires-clause-children

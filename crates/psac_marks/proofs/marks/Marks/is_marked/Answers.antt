@@ -1,12 +1,5 @@
 use Rattle.std.proofs.Common.{ℕ, zero, suc, ◌<◌, ◌≡◌, true≢false, sym, ap, subst, ◌∙◌, arith}
-use Rattle.std.specs.Prelude.{◌==◌, not, IsTrue}
-use Rattle.std.proofs.lemmas.Bool.{ne_eqb}
-use Rattle.psac_ops.specs.declared.plain.Handle.{Handle}
-use Rattle.psac_slots.specs.Claiming.{times}
-use Rattle.psac_marks.specs.declared.view.MarksView.{MarksView}
-use Rattle.psac_marks.specs.Marked.{own_place, HasOwn}
-use Rattle.psac_marks.specs.Steps.{IsClosed}
-use Rattle.psac_marks.specs.Passes.{Carries, Owns}
+use Rattle.psac_marks.proofs.Terms.{◌==◌, not, IsTrue, ne_eqb, Handle, times, MarksView, own_place, HasOwn, IsClosed, Carries, Owns}
 use Rattle.psac_marks.proofs.Parts.{place_own}
 use Rattle.psac_marks.proofs.Acts.{asks}
 use Rattle.psac_marks.proofs.Carrying.{carries_asked}
@@ -19,19 +12,16 @@ load-mark-requires c =
     let v = c.pass.inside.seat.me.0 in
     let x = c.args.node.slot in
     let t = ap (λ p. p.table) is ∙ (c.requires.table ∙ sym c.self.view_is) in
-    let w = ap (λ z. z.words) t in
-    let z = p.words_is in
     let o = subst (λ k. Owns k c.args.node) (sym (ap (λ p. p.knows) is)) c.requires.own in
     let own : HasOwn v.own x = (o.0, o.1, ap (λ (h : Handle). h.slot) o.2) in
     let low = subst (λ k. k < c.pass.inside.nodes) own.2 (p.low (own_place v.claims.branch o.0) (place_own v o.0 o.1)) in
-    (t, omega (arith, w, z, low), asks _ _ _ v c.pass.inside.seat.me.1 p.live _)
+    (t, omega (arith, ap (λ z. z.words) t, p.words_is, low), asks _ _ _ v c.pass.inside.seat.me.1 p.live _)
 
 pub invariant_of-pass : goal.invariant_of-pass
 invariant_of-pass c =
-    let p = c.pass.invariant.1 in
     let s = c.load-mark.ensures in
     let e = s.2.counted in
-    (ap (λ m. m.1) e ∙ c.pass.invariant.0, subst (λ (x : ℕ × MarksView). Carries c.pass.inside.nodes c.pass.inside.head c.pass.inside.room x.0 x.1) (λ j. (ap (λ z. z.words) (sym s.0) j, ap (λ m. m.0) (sym e) j)) (carries_asked _ _ _ _ c.pass.inside.seat.me.0 p))
+    (ap (λ m. m.1) e ∙ c.pass.invariant.0, subst (λ (x : ℕ × MarksView). Carries c.pass.inside.nodes c.pass.inside.head c.pass.inside.room x.0 x.1) (λ j. (ap (λ z. z.words) (sym s.0) j, ap (λ m. m.0) (sym e) j)) (carries_asked _ _ _ _ c.pass.inside.seat.me.0 c.pass.invariant.1))
 
 told : (n t : ℕ) → n ≡ t → (IsTrue (not (n == 0)) → 0 < t) × (0 < t → IsTrue (not (n == 0)))
 told zero t e = (λ h. absurd (true≢false (sym h)), λ p. absurd (omega (arith, e, p)))
@@ -39,12 +29,10 @@ told (suc n) t e = (λ h. omega (arith, e), λ p. ap not (ne_eqb (suc n) 0 (λ q
 
 pub returns-clause-marked : goal.returns-clause-marked
 returns-clause-marked c =
-    let is = c.pass.view_is in
     let p = c.pass.invariant.1 in
     let n = p.nodes_is in
-    let o = c.requires.own in
-    let know = ap (λ p. p.knows) is in
-    let own = subst (λ k. Owns k c.args.node) (sym know) o in
+    let know = ap (λ p. p.knows) c.pass.view_is in
+    let own = subst (λ k. Owns k c.args.node) (sym know) c.requires.own in
     let m = c.load-mark.ensures.2.tells c.args.node.slot (own.0, own.1, ap (λ (h : Handle). h.slot) own.2) (omega (arith, n)) in
     told c.load-mark.result (times c.args.node.slot c.args.pass.now.knows.marked) (m ∙ ap (λ (k : MarksView). times c.args.node.slot k.marked) know)
 

@@ -1,14 +1,5 @@
 use Rattle.std.proofs.Common.{◌≡◌, ◌<◌, ℕ, sym, ap, subst, ◌∙◌, arith, Option, None}
-use Rattle.std.specs.Prelude.{IfSome}
-use Rattle.atomic_table.proofs.Lists.{set_else}
-use Rattle.psac_slots.specs.Handles.{Member}
-use Rattle.psac_slots.specs.Claiming.{times}
-use Rattle.psac_marks.specs.declared.view.SharedView.{SharedView}
-use Rattle.psac_marks.specs.declared.view.MetView.{MetView}
-use Rattle.psac_marks.specs.declared.view.MarksView.{MarksView}
-use Rattle.psac_marks.specs.Marked.{places, HasOwn, Meeting}
-use Rattle.psac_marks.specs.Steps.{joined, met, IsClosed}
-use Rattle.psac_marks.specs.Passes.{Carries, United}
+use Rattle.psac_marks.proofs.Terms.{IfSome, set_else, Member, times, SharedView, MetView, MarksView, places, HasOwn, Meeting, joined, met, IsClosed, Carries, United}
 use Rattle.psac_marks.proofs.Acts.{settles}
 use Rattle.psac_marks.proofs.Uniting.{joins_at, unites_views}
 use Rattle.psac_marks.proofs.Handed.{carries_joined}
@@ -21,14 +12,11 @@ join_seat-requires c =
     let p = c.left.invariant.1 in
     let q = c.right.invariant.1 in
     let tl = ap (λ p. p.table) il ∙ (c.requires.table.0 ∙ sym c.self.view_is) in
-    let tr = ap (λ p. p.table) ir ∙ (c.requires.table.1 ∙ sym c.self.view_is) in
-    let w = ap (λ z. z.words) tl in
-    let z = p.words_is in
     let b = c.requires.sides in (
       tl,
-      tr,
+      (ap (λ p. p.table) ir ∙ (c.requires.table.1 ∙ sym c.self.view_is)),
       c.right.invariant.0,
-      omega (arith, w, z),
+      omega (arith, ap (λ z. z.words) tl, p.words_is),
       λ s h at two there. joins_at _ s.words s.views h _ _ c.left.inside.seat.me.0 c.right.inside.seat.me.0 b.0 at
           (sym (set_else s.views _ _ (met c.left.inside.seat.me.0 c.right.inside.seat.me.0) two) ∙ there) two p.live q.live (ap (λ p. p.knows.claims.branch) il ∙ b.1) (ap (λ p. p.knows.claims.branch) ir ∙ b.2) p.climb q.climb,
     )
@@ -38,9 +26,7 @@ load-requires c =
     let j = c.join_seat.ensures in
     let p = c.left.invariant.1 in
     let tl = ap (λ p. p.table) c.left.view_is ∙ (c.requires.table.0 ∙ sym c.self.view_is) in
-    let w = ap (λ z. z.words) tl in
-    let z = p.words_is in
-    (j.0 ∙ tl, omega (arith, w, z), settles _ _ _ c.join_seat.new.seat.me.0 c.join_seat.new.seat.me.1 (ap (λ m. m.0.claims.live) j.2 ∙ p.live) _)
+    (j.0 ∙ tl, omega (arith, ap (λ z. z.words) tl, p.words_is), settles _ _ _ c.join_seat.new.seat.me.0 c.join_seat.new.seat.me.1 (ap (λ m. m.0.claims.live) j.2 ∙ p.live) _)
 
 pub invariant_of-result : goal.invariant_of-result
 invariant_of-result c =
@@ -62,24 +48,20 @@ returns-clause-joined c =
     let j = c.join_seat.ensures in
     let l = c.load.ensures in
     let kl = ap (λ p. p.knows) c.left.view_is in
-    let kr = ap (λ p. p.knows) c.right.view_is in
-    ap (λ m. m.0) l.2.settled ∙ (ap (λ m. record m.0 { met = None }) j.2 ∙ (λ i. joined (kl i) (kr i)))
+    ap (λ m. m.0) l.2.settled ∙ (ap (λ m. record m.0 { met = None }) j.2 ∙ (λ i. joined (kl i) ((ap (λ p. p.knows) c.right.view_is) i)))
 
 pub returns-clause-united : goal.returns-clause-united
 returns-clause-united c =
-    let j = c.join_seat.ensures in
     let kl = ap (λ p. p.knows) c.left.view_is in
     let kr = ap (λ p. p.knows) c.right.view_is in
-    let m = subst (λ (o : Option MetView). IfSome o Meeting) (ap (λ m. m.0.met) j.2) c.load.ensures.2.meeting in
+    let m = subst (λ (o : Option MetView). IfSome o Meeting) (ap (λ m. m.0.met) c.join_seat.ensures.2) c.load.ensures.2.meeting in
     let u = unites_views c.left.inside.seat.me.0 c.right.inside.seat.me.0 m in
     subst (λ (x : MarksView × MarksView × MarksView). United x.0 x.1 x.2) (λ i. (kl i, kr i, (sym (returns-clause-joined c ∙ (λ k. joined (sym kl k) (sym kr k)))) i)) u
 
 pub returns-clause-closed : goal.returns-clause-closed
 returns-clause-closed c =
-    let j = c.join_seat.ensures in
     let l = c.load.ensures in
-    let p = c.left.invariant.1 in
-    let k = l.2.tells.closed (ap (λ m. m.0.climb) j.2 ∙ p.climb) in
+    let k = l.2.tells.closed (ap (λ m. m.0.climb) c.join_seat.ensures.2 ∙ c.left.invariant.1.climb) in
     subst IsClosed (sym (ap (λ m. m.0) l.2.settled)) record { upwards = k.upwards; busy = k.busy }
 
 pub returns-clause-dropped : goal.returns-clause-dropped

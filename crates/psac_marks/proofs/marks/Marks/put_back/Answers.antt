@@ -1,11 +1,5 @@
 use Rattle.std.proofs.Common.{◌≡◌, ℕ, suc, ◌+◌, ◌*◌, ◌%◌, ◌<◌, length, refl, sym, ap, subst, ◌∙◌, arith, mod-lt, Option, None, Some}
-use Rattle.psac_ops.specs.declared.plain.Handle.{Handle}
-use Rattle.psac_slots.specs.Handles.{Member, word_of, later}
-use Rattle.psac_slots.specs.Claiming.{place, Accounted}
-use Rattle.psac_marks.specs.declared.view.MarksView.{MarksView}
-use Rattle.psac_marks.specs.Marked.{free_word, own_place, HasOwn}
-use Rattle.psac_marks.specs.Steps.{hung, stated, gave, released}
-use Rattle.psac_marks.specs.Passes.{Carries, Owns, Childless}
+use Rattle.psac_marks.proofs.Terms.{Handle, Member, word_of, later, place, Accounted, MarksView, free_word, own_place, HasOwn, hung, stated, gave, released, Carries, Owns, Childless}
 use Rattle.psac_marks.proofs.Parts.{place_own}
 use Rattle.psac_marks.proofs.Keeps.{own_alone}
 use Rattle.psac_marks.proofs.Families.{bare_below}
@@ -30,15 +24,13 @@ store-requires c =
     let v = c.pass.inside.seat.me.0 in
     let x = c.args.node.slot in
     let t = ap (λ p. p.table) c.pass.view_is ∙ (c.requires.table ∙ sym c.self.view_is) in
-    let w = ap (λ z. z.words) t in
-    let z = p.words_is in
     let n = p.nodes_is in
     let o = subst (λ k. Owns k c.args.node) (sym is) c.requires.own in
     let own : HasOwn v.own x = (o.0, o.1, ap (λ (h : Handle). h.slot) o.2) in
     let low = subst (λ k. k < c.pass.inside.nodes) own.2 (p.low (own_place v.claims.branch o.0) (place_own v o.0 o.1)) in
     let free = subst (λ k. Childless k x) (sym is) c.requires.children in (
       t,
-      omega (arith, w, z, low),
+      omega (arith, ap (λ z. z.words) t, p.words_is, low),
       clears _ _ _ v c.pass.inside.seat.me.1 p.live x _ (omega (arith, low, n))
           (λ s h at. (own_alone _ s.words s.views h _ v at x own, bare_below _ s.words s.views h _ v at p.live x own (bare v x free))) (omega (arith, n)),
     )
@@ -50,8 +42,6 @@ store-requires-2 c =
     let v = c.pass.inside.seat.me.0 in
     let x = c.args.node.slot in
     let t = ap (λ p. p.table) c.pass.view_is ∙ (c.requires.table ∙ sym c.self.view_is) in
-    let w = ap (λ z. z.words) t in
-    let z = p.words_is in
     let n = p.nodes_is in
     let o = subst (λ k. Owns k c.args.node) (sym is) c.requires.own in
     let own : HasOwn v.own x = (o.0, o.1, ap (λ (h : Handle). h.slot) o.2) in
@@ -60,7 +50,7 @@ store-requires-2 c =
     let v1 = ap (λ m. m.0) (s1.2 x (omega (arith, n))) in
     let n1 = ap (λ (u : MarksView). u.claims.count) v1 in (
       s1.0 ∙ t,
-      omega (arith, w, z, low),
+      omega (arith, ap (λ z. z.words) t, p.words_is, low),
       hangs _ _ _ c.store.new.seat.me.0 c.store.new.seat.me.1 (ap (λ (u : MarksView). u.claims.live) v1 ∙ p.live) x None _ _ (subst (λ (u : MarksView). HasOwn u.own x) (sym v1) own) (λ q e. absurd (none_some q e)) (omega (arith, n, n1)) refl,
     )
 
@@ -68,25 +58,19 @@ pub store-requires-3 : goal.store-requires-3
 store-requires-3 c =
     let is = ap (λ p. p.knows) c.pass.view_is in
     let p = c.pass.invariant.1 in
-    let v = c.pass.inside.seat.me.0 in
     let g = c.args.node in
     let x = c.args.node.slot in
     let t = ap (λ p. p.table) c.pass.view_is ∙ (c.requires.table ∙ sym c.self.view_is) in
-    let w = ap (λ z. z.words) t in
-    let z = p.words_is in
     let n = p.nodes_is in
-    let has = subst (λ (u : MarksView). Member g u.claims.held) (sym is) c.requires.out in
-    let st = state_of _ _ _ _ v p g has in
+    let st = state_of _ _ _ _ c.pass.inside.seat.me.0 p g (subst (λ (u : MarksView). Member g u.claims.held) (sym is) c.requires.out) in
     let slot = ap (λ (h : Handle). h.slot) st.2 in
-    let low = (p.out st.0 st.1).1 in
     let s1 = c.store.ensures in
     let v1 = ap (λ m. m.0) (s1.2 x (omega (arith, n))) in
-    let n1 = ap (λ (u : MarksView). u.claims.count) v1 in
     let s2 = c.store-2.ensures in
-    let v2 = ap (λ m. m.0) (s2.2 x None (omega (arith, n, n1)) refl) ∙ ap (hung x None) v1 in
+    let v2 = ap (λ m. m.0) (s2.2 x None (omega (arith, n, ap (λ (u : MarksView). u.claims.count) v1)) refl) ∙ ap (hung x None) v1 in
     let n2 = ap (λ (u : MarksView). u.claims.count) v2 in (
       s2.0 ∙ (s1.0 ∙ t),
-      omega (arith, w, z, low, slot),
+      omega (arith, ap (λ z. z.words) t, p.words_is, (p.out st.0 st.1).1, slot),
       states _ _ _ c.store-2.new.seat.me.0 c.store-2.new.seat.me.1 (ap (λ (u : MarksView). u.claims.live) v2 ∙ p.live) st.0 _ _ (subst (λ (u : MarksView). Member st.0 u.states) (sym v2) st.1) (omega (arith, n, n2, slot)),
     )
 
@@ -98,57 +82,48 @@ store-requires-4 c =
     let g = c.args.node in
     let x = c.args.node.slot in
     let t = ap (λ p. p.table) c.pass.view_is ∙ (c.requires.table ∙ sym c.self.view_is) in
-    let w = ap (λ z. z.words) t in
-    let z = p.words_is in
     let n = p.nodes_is in
     let has = subst (λ (u : MarksView). Member g u.claims.held) (sym is) c.requires.out in
     let own = subst (λ k. Owns k g) (sym is) c.requires.own in
-    let free = subst (λ k. Childless k x) (sym is) c.requires.children in
     let fit = subst (λ (u : MarksView). Accounted u.claims) (sym is) c.requires.whole in
-    let room = has_room _ _ _ _ v p g has fit in
     let s1 = c.store.ensures in
     let v1 = ap (λ m. m.0) (s1.2 x (omega (arith, n))) in
-    let n1 = ap (λ (u : MarksView). u.claims.count) v1 in
     let s2 = c.store-2.ensures in
-    let v2 = ap (λ m. m.0) (s2.2 x None (omega (arith, n, n1)) refl) ∙ ap (hung x None) v1 in
+    let v2 = ap (λ m. m.0) (s2.2 x None (omega (arith, n, ap (λ (u : MarksView). u.claims.count) v1)) refl) ∙ ap (hung x None) v1 in
     let n2 = ap (λ (u : MarksView). u.claims.count) v2 in
     let ga = c.from-generation.ensures in
     let s3 = c.store-3.ensures in
     let word : 2 * (c.from-generation.result + 1) ≡ free_word (later g) = twice _ _ (omega (arith, ga)) in
     let v3 : c.store-3.new.seat.me.0 ≡ leaving g v = ap (λ m. m.0) (s3.2 x (omega (arith, n, n2))) ∙ (λ j. stated x (word j) (v2 j)) in
-    let go = subst (λ u. MayGo u g) (sym v3) (may_go _ _ _ _ v p g has own free) in
+    let go = subst (λ u. MayGo u g) (sym v3) (may_go _ _ _ _ v p g has own (subst (λ k. Childless k x) (sym is) c.requires.children)) in
     let q3 = c.from-3.ensures in
-    let q4 = c.from-4.ensures in
-    let m = mod-lt (c.from.result + c.from-2.result) {m = c.from-3.result} (omega (arith, q3, room)) in
+    let m = mod-lt (c.from.result + c.from-2.result) {m = c.from-3.result} (omega (arith, q3, has_room _ _ _ _ v p g has fit)) in
     let here : (c.from.result + c.from-2.result) % c.from-3.result + 1 ≡ place c.store-3.new.seat.me.0.claims.count (c.store-3.new.seat.me.0.claims.head + length c.store-3.new.seat.me.0.claims.list) =
     one_more _ ∙ (λ j. suc (((c.from.ensures ∙ (sym p.head_is ∙ sym (ap (λ (u : MarksView). u.claims.head) v3))) j + (c.from-2.ensures ∙ (sym p.room_is ∙ sym (ap (λ (u : MarksView). length u.claims.list) v3))) j) % (c.from-3.ensures ∙ (sym p.nodes_is ∙ sym (ap (λ (u : MarksView). u.claims.count) v3))) j)) in
-    let stored : (c.from-generation.result + 1) * 4294967296 + c.from-4.result ≡ word_of (later g) = omega (arith, ga, q4) in
-    (s3.0 ∙ (s2.0 ∙ (s1.0 ∙ t)), omega (arith, w, z, m, q3), gives _ _ _ _ _ c.store-3.new.seat.me.0 c.store-3.new.seat.me.1 g (ap (λ (u : MarksView). u.claims.counter) (v3 ∙ ap (leaving g) is) ∙ c.requires.begun) (subst (λ (u : MarksView). Member g u.claims.held) (sym v3) has) c.requires.next go here stored)
+    let stored : (c.from-generation.result + 1) * 4294967296 + c.from-4.result ≡ word_of (later g) = omega (arith, ga, c.from-4.ensures) in
+    (s3.0 ∙ (s2.0 ∙ (s1.0 ∙ t)), omega (arith, ap (λ z. z.words) t, p.words_is, m, q3), gives _ _ _ _ _ c.store-3.new.seat.me.0 c.store-3.new.seat.me.1 g (ap (λ (u : MarksView). u.claims.counter) (v3 ∙ ap (leaving g) is) ∙ c.requires.begun) (subst (λ (u : MarksView). Member g u.claims.held) (sym v3) has) c.requires.next go here stored)
 
 pub returns-clause-gave : goal.returns-clause-gave
 returns-clause-gave c =
     let is = ap (λ p. p.knows) c.pass.view_is in
-    let p = c.pass.invariant.1 in
     let v = c.pass.inside.seat.me.0 in
     let g = c.args.node in
     let x = c.args.node.slot in
-    let n = p.nodes_is in
+    let n = c.pass.invariant.1.nodes_is in
     let has = subst (λ (u : MarksView). Member g u.claims.held) (sym is) c.requires.out in
     let v1 = ap (λ m. m.0) (c.store.ensures.2 x (omega (arith, n))) in
     let n1 = ap (λ (u : MarksView). u.claims.count) v1 in
     let v2 = ap (λ m. m.0) (c.store-2.ensures.2 x None (omega (arith, n, n1)) refl) ∙ ap (hung x None) v1 in
     let n2 = ap (λ (u : MarksView). u.claims.count) v2 in
     let ga = c.from-generation.ensures in
-    let q4 = c.from-4.ensures in
     let word : 2 * (c.from-generation.result + 1) ≡ free_word (later g) = twice _ _ (omega (arith, ga)) in
     let v3 : c.store-3.new.seat.me.0 ≡ leaving g v = ap (λ m. m.0) (c.store-3.ensures.2 x (omega (arith, n, n2))) ∙ (λ j. stated x (word j) (v2 j)) in
-    let stored : (c.from-generation.result + 1) * 4294967296 + c.from-4.result ≡ word_of (later g) = omega (arith, ga, q4) in
+    let stored : (c.from-generation.result + 1) * 4294967296 + c.from-4.result ≡ word_of (later g) = omega (arith, ga, c.from-4.ensures) in
     ap (λ m. m.0) (c.store-4.ensures.2 g (subst (λ (u : MarksView). Member g u.claims.held) (sym v3) has) c.requires.next stored) ∙ (ap (gave g) v3 ∙ (released_is g v ∙ ap (released g) is))
 
 pub returns-clause-whole : goal.returns-clause-whole
 returns-clause-whole c =
     let is = ap (λ p. p.knows) c.pass.view_is in
-    let p = c.pass.invariant.1 in
     let v = c.pass.inside.seat.me.0 in
     let g = c.args.node in
     let has = subst (λ (u : MarksView). Member g u.claims.held) (sym is) c.requires.out in
@@ -167,16 +142,13 @@ invariant_of-pass c =
     let fit = subst (λ (u : MarksView). Accounted u.claims) (sym is) c.requires.whole in
     let e1 = c.store.ensures.2 x (omega (arith, n)) in
     let v1 = ap (λ m. m.0) e1 in
-    let n1 = ap (λ (u : MarksView). u.claims.count) v1 in
-    let e2 = c.store-2.ensures.2 x None (omega (arith, n, n1)) refl in
+    let e2 = c.store-2.ensures.2 x None (omega (arith, n, ap (λ (u : MarksView). u.claims.count) v1)) refl in
     let v2 = ap (λ m. m.0) e2 ∙ ap (hung x None) v1 in
-    let n2 = ap (λ (u : MarksView). u.claims.count) v2 in
     let ga = c.from-generation.ensures in
-    let q4 = c.from-4.ensures in
-    let e3 = c.store-3.ensures.2 x (omega (arith, n, n2)) in
+    let e3 = c.store-3.ensures.2 x (omega (arith, n, ap (λ (u : MarksView). u.claims.count) v2)) in
     let word : 2 * (c.from-generation.result + 1) ≡ free_word (later g) = twice _ _ (omega (arith, ga)) in
     let v3 : c.store-3.new.seat.me.0 ≡ leaving g v = ap (λ m. m.0) e3 ∙ (λ j. stated x (word j) (v2 j)) in
-    let stored : (c.from-generation.result + 1) * 4294967296 + c.from-4.result ≡ word_of (later g) = omega (arith, ga, q4) in
+    let stored : (c.from-generation.result + 1) * 4294967296 + c.from-4.result ≡ word_of (later g) = omega (arith, ga, c.from-4.ensures) in
     let e4 = c.store-4.ensures.2 g (subst (λ (u : MarksView). Member g u.claims.held) (sym v3) has) c.requires.next stored in
     let view = ap (λ m. m.0) e4 ∙ (ap (gave g) v3 ∙ released_is g v) in (
       ap (λ m. m.1) e4 ∙ (ap (λ m. m.1) e3 ∙ (ap (λ m. m.1) e2 ∙ (ap (λ m. m.1) e1 ∙ c.pass.invariant.0))),

@@ -1,6 +1,5 @@
 use Rattle.std.proofs.Common.{ℕ, sym, ap, subst, ◌∙◌, arith}
-use Rattle.psac_marks.specs.declared.view.MarksView.{MarksView}
-use Rattle.psac_marks.specs.Passes.{Carries}
+use Rattle.psac_marks.proofs.Terms.{MarksView, Carries}
 use Rattle.psac_marks.proofs.Regaining.{regains}
 use Rattle.psac_marks.proofs.Handed.{carries_regained}
 use Rattle.psac_marks.proofs.marks.Marks.regain.Goals as goal
@@ -10,9 +9,7 @@ load-requires c =
     let is = c.pass.view_is in
     let p = c.pass.invariant.1 in
     let t = ap (λ p. p.table) is ∙ (c.requires.table ∙ sym c.self.view_is) in
-    let w = ap (λ z. z.words) t in
-    let z = p.words_is in
-    (t, omega (arith, w, z), regains _ _ _ c.pass.inside.seat.me.0 c.pass.inside.seat.me.1 p.live (ap (λ p. p.knows.claims.branch) is ∙ c.requires.joined))
+    (t, omega (arith, ap (λ z. z.words) t, p.words_is), regains _ _ _ c.pass.inside.seat.me.0 c.pass.inside.seat.me.1 p.live (ap (λ p. p.knows.claims.branch) is ∙ c.requires.joined))
 
 pub returns-clause-alone : goal.returns-clause-alone
 returns-clause-alone c = let l = c.load.ensures.2 in ap (λ m. m.0.shared) l.0 ∙ l.1

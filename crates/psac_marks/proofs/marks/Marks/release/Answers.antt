@@ -1,8 +1,5 @@
 use Rattle.std.proofs.Common.{sym, subst}
-use Rattle.psac_ops.specs.declared.plain.Handle.{Handle}
-use Rattle.psac_slots.specs.Handles.{Member}
-use Rattle.psac_marks.specs.declared.view.MarksView.{MarksView}
-use Rattle.psac_marks.specs.Passes.{Owns, Childless}
+use Rattle.psac_marks.proofs.Terms.{Handle, Member, MarksView, Owns, Childless}
 use Rattle.psac_marks.proofs.marks.Marks.release.Goals as goal
 
 pub put_back-requires-clause-out : goal.put_back-requires-clause-out

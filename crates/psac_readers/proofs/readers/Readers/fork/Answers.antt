@@ -1,6 +1,5 @@
 use Rattle.std.proofs.Common.{ℕ, length, sym, ap, subst, ◌∙◌, arith}
-use Rattle.psac_readers.specs.declared.view.ReadersView.{ReadersView}
-use Rattle.psac_readers.specs.Passes.{Carries}
+use Rattle.psac_readers.proofs.Terms.{ReadersView, Carries}
 use Rattle.psac_readers.proofs.Sides.{splits_at}
 use Rattle.psac_readers.proofs.Carrying.{carries_left, carries_right}
 use Rattle.psac_readers.proofs.readers.Readers.fork.Goals as goal
@@ -10,11 +9,9 @@ split_seat-other-requires g c =
     let is = c.pass.view_is in
     let p = c.pass.invariant.1 in
     let t = ap (λ p. p.table) is ∙ (c.requires.table ∙ sym c.self.view_is) in
-    let w = ap (λ z. z.words) t in
-    let z = p.words_is in
     let short = ap (λ p. length p.knows.claims.branch) is in
     let s = c.requires.short in
-    (t, omega (arith, w, z), λ s h at. splits_at g.D.ReadersSplit.set_shared g.D.ReadersSplit.set_right g.D.ReadersSplit.link_right _ _ s.words s.views h _ c.pass.inside.seat.me.0 at p.live (ap (λ p. p.knows.claims.over) is ∙ c.requires.room) (omega (arith, short, s)))
+    (t, omega (arith, ap (λ z. z.words) t, p.words_is), λ s h at. splits_at g.D.ReadersSplit.set_shared g.D.ReadersSplit.set_right g.D.ReadersSplit.link_right _ _ s.words s.views h _ c.pass.inside.seat.me.0 at p.live (ap (λ p. p.knows.claims.over) is ∙ c.requires.room) (omega (arith, short, s)))
 
 pub invariant_of-result : goal.invariant_of-result
 invariant_of-result g c =

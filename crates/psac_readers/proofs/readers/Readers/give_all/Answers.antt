@@ -1,19 +1,13 @@
 use Rattle.std.proofs.Common.{ℕ, ◌≡◌, ◌+◌, suc, sym, ap, subst, ◌∙◌, arith}
-use Rattle.psac_slots.specs.Handles.{Member}
-use Rattle.psac_readers.specs.declared.view.ReadersView.{ReadersView}
-use Rattle.psac_readers.specs.Steps.{rewound, Fine, Holds}
-use Rattle.psac_readers.specs.Chained.{Each}
-use Rattle.psac_readers.specs.Swept.{AllGiven}
+use Rattle.psac_readers.proofs.Terms.{Member, ReadersView, rewound, Fine, Holds, Each, AllGiven}
 use Rattle.psac_readers.proofs.Sweeping.{one_given, all_gone}
 use Rattle.psac_readers.proofs.readers.Readers.give_all.Goals as goal
 
 pub take_off-requires-clause-walk : goal.take_off-requires-clause-walk
 take_off-requires-clause-walk c =
-    let g = c.loop-m.invariant.2 in
-    let t = c.loop-m-test.true in
     let p = c.pass.invariant.1.mods_is in
     let e = ap (λ (u : ReadersView). u.mods) (ap (λ p. p.knows) c.pass.view_is ∙ c.rewind.ensures.rewound) in
-    subst (Member c.loop-m.m) (sym g.sets) (c.requires.sets c.loop-m.m (omega (arith, t, p, e)))
+    subst (Member c.loop-m.m) (sym c.loop-m.invariant.2.sets) (c.requires.sets c.loop-m.m (omega (arith, c.loop-m-test.true, p, e)))
 
 one_more : (n : ℕ) → suc n ≡ n + 1
 one_more n = omega arith
@@ -26,10 +20,7 @@ loop-m-preserved c =
 
 pub returns-clause-empty : goal.returns-clause-empty
 returns-clause-empty c =
-    let i = c.pass.view_is in
-    let e = ap (λ p. p.knows) i ∙ c.rewind.ensures.rewound in
-    let t = c.loop-m-test.false in
-    let m = c.pass.invariant.1.mods_is in
+    let e = ap (λ p. p.knows) c.pass.view_is ∙ c.rewind.ensures.rewound in
     let k = ap (λ (u : ReadersView). u.mods) e in
     all_gone c.pass.inside.links c.loop-m.m (rewound c.args.pass.now.knows) c.loop-m.pass.knows (subst (λ (u : ReadersView). Each (Fine c.pass.inside.links) u.links) e c.pass.invariant.1.fine) (subst Holds c.rewind.ensures.rewound c.rewind.ensures.holds)
-    (omega (arith, t, m, k)) c.loop-m.invariant.2
+    (omega (arith, c.loop-m-test.false, c.pass.invariant.1.mods_is, k)) c.loop-m.invariant.2

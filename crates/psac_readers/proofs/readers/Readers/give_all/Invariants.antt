@@ -1,7 +1,5 @@
 use Rattle.std.proofs.Common.{◌≡◌, Some}
-use Rattle.psac_slots.specs.Claiming.{Accounted}
-use Rattle.psac_readers.specs.Steps.{rewound}
-use Rattle.psac_readers.specs.Swept.{AllGiven}
+use Rattle.psac_readers.proofs.Terms.{Accounted, rewound, AllGiven}
 use Rattle.psac_readers.proofs.readers.Readers.give_all.Given as goal
 
 abbrev pub invariant-loop-m : goal.invariant-loop-m

@@ -1,7 +1,5 @@
 use Rattle.std.proofs.Common.{Bool, true, false, true≢false, refl, ◌≡◌, ◌<◌, sym, ap, subst, ◌∙◌, arith}
-use Rattle.std.specs.Prelude.{sum_by, not}
-use Rattle.std.proofs.lemmas.Bool.{eqb-true}
-use Rattle.psac_readers.specs.Chained.{named, alive}
+use Rattle.psac_readers.proofs.Terms.{sum_by, not, eqb-true, named, alive}
 use Rattle.psac_readers.proofs.Acts.{loads}
 use Rattle.psac_readers.proofs.Walking.{named_low, all_whole}
 use Rattle.psac_readers.proofs.readers.Readers.goes.Goals as goal
@@ -11,11 +9,9 @@ load-dead-requires c =
     let is = c.pass.view_is in
     let p = c.pass.invariant.1 in
     let t = ap (λ p. p.table) is ∙ (c.requires.table ∙ sym c.self.view_is) in
-    let w = ap (λ z. z.words) t in
-    let z = p.words_is in
     let own = subst (λ v. 0 < sum_by (named c.args.link) v.links) (sym (ap (λ p. p.knows) is)) c.requires.own in
     let low = named_low _ c.args.link c.pass.inside.seat.me.0.links p.fine own in
-    (t, omega (arith, w, z, low), loads _ _ _ _ c.pass.inside.seat.me.0 c.pass.inside.seat.me.1 p.live _)
+    (t, omega (arith, ap (λ z. z.words) t, p.words_is, low), loads _ _ _ _ c.pass.inside.seat.me.0 c.pass.inside.seat.me.1 p.live _)
 
 on_then : (b : Bool) → not b ≡ false → b ≡ true
 on_then true e = refl
@@ -25,12 +21,8 @@ pub returns-clause-stays : goal.returns-clause-stays
 returns-clause-stays c = λ e.
     let iv = ap (λ p. p.knows) c.pass.view_is in
     let p = c.pass.invariant.1 in
-    let li = p.links_is in
-    let mi = p.mods_is in
     let l = c.args.link in
-    let v = c.pass.inside.seat.me.0 in
     let own = subst (λ u. 0 < sum_by (named l) u.links) (sym iv) c.requires.own in
-    let d = c.load-dead.ensures.2.dead l (omega (arith, li, mi)) own in
-    let a = (all_whole _ l v.links p.fine).0 in
-    let z = eqb-true c.load-dead.result 0 (on_then _ e) in
-    (c.if-all.false, subst (λ u. 0 < sum_by (alive l) u.links) iv (omega (arith, a, d, z, own)))
+    let d = c.load-dead.ensures.2.dead l (omega (arith, p.links_is, p.mods_is)) own in
+    let a = (all_whole _ l c.pass.inside.seat.me.0.links p.fine).0 in
+    (c.if-all.false, subst (λ u. 0 < sum_by (alive l) u.links) iv (omega (arith, a, d, eqb-true c.load-dead.result 0 (on_then _ e), own)))

@@ -1,8 +1,5 @@
-use Rattle.std.proofs.Common.{Bool, ℕ, zero, suc, true, false, true≢false, refl, ◌≡◌, ◌≢◌, ◌<◌, sym, ap, subst, ◌∙◌, arith}
-use Rattle.std.specs.Prelude.{sum_by, not, ◌==◌}
-use Rattle.std.proofs.lemmas.Bool.{eqb-true, eq-eqb}
-use Rattle.psac_slots.specs.Claiming.{IsSole}
-use Rattle.psac_readers.specs.Chained.{deads}
+use Rattle.std.proofs.Common.{Bool, ℕ, zero, suc, true, false, true≢false, refl, ◌≡◌, ◌<◌, sym, ap, subst, ◌∙◌, arith}
+use Rattle.psac_readers.proofs.Terms.{sum_by, not, ◌==◌, eqb-true, IsSole, deads}
 use Rattle.psac_readers.proofs.Acts.{loads}
 use Rattle.psac_readers.proofs.readers.Readers.is_dead.Goals as goal
 
@@ -11,24 +8,17 @@ load-found-requires c =
     let is = c.pass.view_is in
     let p = c.pass.invariant.1 in
     let t = ap (λ p. p.table) is ∙ (c.requires.table ∙ sym c.self.view_is) in
-    let w = ap (λ z. z.words) t in
-    let z = p.words_is in
     let n = ap (λ p. p.knows.claims.count) is in
-    let low = c.requires.inside in
-    let k = p.links_is in
-    (t, omega (arith, w, z, low, n, k), loads _ _ _ _ c.pass.inside.seat.me.0 c.pass.inside.seat.me.1 p.live _)
+    (t, omega (arith, ap (λ z. z.words) t, p.words_is, c.requires.inside, n, p.links_is), loads _ _ _ _ c.pass.inside.seat.me.0 c.pass.inside.seat.me.1 p.live _)
 
 -- what was found is whether the link is dead
 told : (c : goal.After-load-found) → c.load-found.result ≡ sum_by (deads c.args.link.index) c.args.pass.now.knows.links
 told c =
     let iv = ap (λ p. p.knows) c.pass.view_is in
     let p = c.pass.invariant.1 in
-    let li = p.links_is in
-    let mi = p.mods_is in
     let l = c.args.link.index in
-    let low = c.requires.inside in
     let n = ap (λ u. u.claims.count) iv in
-    subst (λ u. c.load-found.result ≡ sum_by (deads l) u.links) iv (c.load-found.ensures.2.alone (subst (λ u. IsSole u.claims) (sym iv) c.requires.sole) l (omega (arith, low, n)) (omega (arith, li, mi)))
+    subst (λ u. c.load-found.result ≡ sum_by (deads l) u.links) iv (c.load-found.ensures.2.alone (subst (λ u. IsSole u.claims) (sym iv) c.requires.sole) l (omega (arith, c.requires.inside, n)) (omega (arith, p.links_is, p.mods_is)))
 
 some_of : (a : ℕ) → not (a == 0) ≡ true → 0 < a
 some_of zero e = absurd (true≢false (sym e))

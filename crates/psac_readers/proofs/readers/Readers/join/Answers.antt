@@ -1,10 +1,5 @@
 use Rattle.std.proofs.Common.{ℕ, ◌<◌, ◌≤◌, sym, ap, subst, ◌∙◌, arith}
-use Rattle.atomic_table.proofs.Lists.{set_else}
-use Rattle.psac_readers.specs.declared.view.ReadersView.{ReadersView}
-use Rattle.std.specs.Prelude.{sum_by}
-use Rattle.psac_readers.specs.Chained.{named}
-use Rattle.psac_readers.specs.Steps.{joined}
-use Rattle.psac_readers.specs.Passes.{Carries}
+use Rattle.psac_readers.proofs.Terms.{sum_by, set_else, ReadersView, named, joined, Carries}
 use Rattle.psac_readers.proofs.Acts.{loads}
 use Rattle.psac_readers.proofs.Sides.{joins_at}
 use Rattle.psac_readers.proofs.Carrying.{carries_joined}
@@ -15,18 +10,14 @@ join_seat-requires c =
     let il = c.left.view_is in
     let ir = c.right.view_is in
     let p = c.left.invariant.1 in
-    let q = c.right.invariant.1 in
     let tl = ap (λ p. p.table) il ∙ (c.requires.table.0 ∙ sym c.self.view_is) in
-    let tr = ap (λ p. p.table) ir ∙ (c.requires.table.1 ∙ sym c.self.view_is) in
-    let w = ap (λ z. z.words) tl in
-    let z = p.words_is in
     let b = c.requires.sides in (
       tl,
-      tr,
+      (ap (λ p. p.table) ir ∙ (c.requires.table.1 ∙ sym c.self.view_is)),
       c.right.invariant.0,
-      omega (arith, w, z),
+      omega (arith, ap (λ z. z.words) tl, p.words_is),
       λ s h at two there. joins_at _ _ s.words s.views h _ _ c.left.inside.seat.me.0 c.right.inside.seat.me.0 b.0 at
-          (sym (set_else s.views _ _ (joined c.left.inside.seat.me.0 c.right.inside.seat.me.0) two) ∙ there) two p.live q.live (ap (λ p. p.knows.claims.branch) il ∙ b.1) (ap (λ p. p.knows.claims.branch) ir ∙ b.2),
+          (sym (set_else s.views _ _ (joined c.left.inside.seat.me.0 c.right.inside.seat.me.0) two) ∙ there) two p.live c.right.invariant.1.live (ap (λ p. p.knows.claims.branch) il ∙ b.1) (ap (λ p. p.knows.claims.branch) ir ∙ b.2),
     )
 
 pub load-requires : goal.load-requires
@@ -34,9 +25,7 @@ load-requires c =
     let j = c.join_seat.ensures in
     let p = c.left.invariant.1 in
     let tl = ap (λ p. p.table) c.left.view_is ∙ (c.requires.table.0 ∙ sym c.self.view_is) in
-    let w = ap (λ z. z.words) tl in
-    let z = p.words_is in
-    (j.0 ∙ tl, omega (arith, w, z), loads _ _ _ _ c.join_seat.new.seat.me.0 c.join_seat.new.seat.me.1 (ap (λ m. m.0.claims.live) j.2 ∙ p.live) _)
+    (j.0 ∙ tl, omega (arith, ap (λ z. z.words) tl, p.words_is), loads _ _ _ _ c.join_seat.new.seat.me.0 c.join_seat.new.seat.me.1 (ap (λ m. m.0.claims.live) j.2 ∙ p.live) _)
 
 pub returns-clause-once : goal.returns-clause-once
 returns-clause-once c = let l = c.load.ensures.2 in λ x. subst (λ m. sum_by (named x) m.0.links ≤ 1) (sym l.same) (l.once x)

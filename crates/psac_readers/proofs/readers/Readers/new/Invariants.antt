@@ -1,6 +1,5 @@
 use Rattle.std.proofs.Common.{◌≡◌, ◌∷◌, map}
-use Rattle.psac_slots.specs.Handles.{word_of, fresh}
-use Rattle.psac_readers.specs.Steps.{first_words}
+use Rattle.psac_readers.proofs.Terms.{word_of, fresh, first_words}
 use Rattle.psac_readers.proofs.readers.Readers.new.Given as goal
 
 abbrev pub invariant-loop-slot : goal.invariant-loop-slot

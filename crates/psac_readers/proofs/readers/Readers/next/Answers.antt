@@ -1,9 +1,5 @@
 use Rattle.std.proofs.Common.{ℕ, List, ◌≡◌, ◌<◌, ◌≤◌, sym, ap, subst, ◌∙◌, arith}
-use Rattle.std.specs.Prelude.{sum_by}
-use Rattle.psac_readers.specs.declared.view.ReadersView.{ReadersView}
-use Rattle.psac_readers.specs.Chained.{Each, named, times}
-use Rattle.psac_readers.specs.Steps.{Fine, chain_of, set_of, next_live, behind}
-use Rattle.psac_readers.specs.Passes.{or_empty, has_word, from_word, Walks}
+use Rattle.psac_readers.proofs.Terms.{sum_by, ReadersView, Each, named, times, Fine, chain_of, set_of, next_live, behind, or_empty, has_word, from_word, Walks}
 use Rattle.psac_readers.proofs.Acts.{loads}
 use Rattle.psac_readers.proofs.Walking.{chain_named, named_low, all_whole, word_behind, same_chain, behind_on, on_walk}
 use Rattle.psac_readers.proofs.readers.Readers.next.Goals as goal
@@ -13,19 +9,16 @@ load-word-requires c =
     let is = c.pass.view_is in
     let p = c.pass.invariant.1 in
     let t = ap (λ p. p.table) is ∙ (c.requires.table ∙ sym c.self.view_is) in
-    let w = ap (λ z. z.words) t in
-    let z = p.words_is in
     let k = c.requires.walk in
     let own = subst (λ v. 0 < sum_by (named c.args.link.index) v.links) (sym (ap (λ p. p.knows) is)) (chain_named c.args.pass.now.knows (set_of c.args.link.index c.args.pass.now.knows.links) c.args.link.index k.0 k.1.2 k.2) in
     let low = named_low _ c.args.link.index c.pass.inside.seat.me.0.links p.fine own in
-    (t, omega (arith, w, z, low), loads _ _ _ _ c.pass.inside.seat.me.0 c.pass.inside.seat.me.1 p.live _)
+    (t, omega (arith, ap (λ z. z.words) t, p.words_is, low), loads _ _ _ _ c.pass.inside.seat.me.0 c.pass.inside.seat.me.1 p.live _)
 
 pub live_from-requires : goal.live_from-requires
 live_from-requires c =
     let is = c.pass.view_is in
     let iv = ap (λ p. p.knows) is in
     let p = c.pass.invariant.1 in
-    let t = ap (λ p. p.table) is ∙ (c.requires.table ∙ sym c.self.view_is) in
     let z = p.words_is in
     let li = p.links_is in
     let mi = p.mods_is in
@@ -40,17 +33,16 @@ live_from-requires c =
     let n = b.2.next l (set_of l v.links) ls k.1.0 (omega (arith, li, mi)) k.1.1 k.2 (omega (arith, on, own)) in
     let li2 = ap (λ m. m.0.claims.count) same in
     let mi2 = ap (λ m. m.0.mods) same in
-    let w2 = ap (λ z. z.words) b.0 in
     let u = c.load-word.new.seat.me.0 in
     let walks : Walks u (set_of l u.links) ls = subst (λ x. Walks x (set_of l x.links) ls) (ap (λ m. m.0) (sym same)) k.1 in
     let chain : or_empty (chain_of (set_of c.from.result u.links) u.walk) ≡ ls = ap (λ x. or_empty (chain_of (set_of x u.links) u.walk)) c.from.ensures ∙ ap or_empty walks.1 in (
-      b.0 ∙ t,
+      b.0 ∙ (ap (λ p. p.table) is ∙ (c.requires.table ∙ sym c.self.view_is)),
       (
         omega (arith, li, li2),
         (
           omega (arith, mi, mi2),
           (
-            omega (arith, z, w2),
+            omega (arith, z, ap (λ z. z.words) b.0),
             (
               ap (λ m. m.0.claims.live) same ∙ p.live,
               (
@@ -68,11 +60,8 @@ live_from-requires c =
 
 pub returns-clause-next : goal.returns-clause-next
 returns-clause-next c = λ us at_us.
-    let is = c.pass.view_is in
-    let iv = ap (λ p. p.knows) is in
+    let iv = ap (λ p. p.knows) c.pass.view_is in
     let p = c.pass.invariant.1 in
-    let li = p.links_is in
-    let mi = p.mods_is in
     let l = c.args.link.index in
     let k = subst (λ v. (ls : List ℕ) × Walks v (set_of l v.links) ls × (0 < times l ls)) (sym iv) c.requires.walk in
     let ls = k.0 in
@@ -81,7 +70,7 @@ returns-clause-next c = λ us at_us.
     let b = c.load-word.ensures in
     let same = b.2.same in
     let on = (all_whole _ l v.links p.fine).1 in
-    let n = b.2.next l (set_of l v.links) ls k.1.0 (omega (arith, li, mi)) k.1.1 k.2 (omega (arith, on, own)) in
+    let n = b.2.next l (set_of l v.links) ls k.1.0 (omega (arith, p.links_is, p.mods_is)) k.1.1 k.2 (omega (arith, on, own)) in
     let u = c.load-word.new.seat.me.0 in
     let walks : Walks u (set_of l u.links) ls = subst (λ x. Walks x (set_of l x.links) ls) (ap (λ m. m.0) (sym same)) k.1 in
     let chain : or_empty (chain_of (set_of c.from.result u.links) u.walk) ≡ ls = ap (λ x. or_empty (chain_of (set_of x u.links) u.walk)) c.from.ensures ∙ ap or_empty walks.1 in

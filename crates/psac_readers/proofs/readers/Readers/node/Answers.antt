@@ -1,8 +1,6 @@
 use Rattle.std.proofs.Common.{◌<◌, sym, ap, subst, ◌∙◌, arith, Some}
-use Rattle.std.specs.Prelude.{sum_by}
 use Rattle.std.proofs.Math.Nat.{div-add-mod'}
-use Rattle.psac_readers.specs.Chained.{named}
-use Rattle.psac_readers.specs.Steps.{node_in}
+use Rattle.psac_readers.proofs.Terms.{sum_by, named, node_in}
 use Rattle.psac_readers.proofs.Acts.{loads}
 use Rattle.psac_readers.proofs.Walking.{named_low, node_known}
 use Rattle.psac_readers.proofs.readers.Readers.node.Goals as goal
@@ -12,11 +10,9 @@ load-word-requires c =
     let is = c.pass.view_is in
     let p = c.pass.invariant.1 in
     let t = ap (λ p. p.table) is ∙ (c.requires.table ∙ sym c.self.view_is) in
-    let w = ap (λ z. z.words) t in
-    let z = p.words_is in
     let own = subst (λ k. 0 < sum_by (named c.args.link.index) k.links) (sym (ap (λ p. p.knows) is)) c.requires.own in
     let low = named_low _ c.args.link.index c.pass.inside.seat.me.0.links p.fine own in
-    (t, omega (arith, w, z, low), loads _ _ _ _ c.pass.inside.seat.me.0 c.pass.inside.seat.me.1 p.live _)
+    (t, omega (arith, ap (λ z. z.words) t, p.words_is, low), loads _ _ _ _ c.pass.inside.seat.me.0 c.pass.inside.seat.me.1 p.live _)
 
 pub returns-clause-node : goal.returns-clause-node
 returns-clause-node c =
@@ -24,9 +20,5 @@ returns-clause-node c =
     let p = c.pass.invariant.1 in
     let own = subst (λ k. 0 < sum_by (named c.args.link.index) k.links) (sym is) c.requires.own in
     let k = node_known _ c.args.link.index c.pass.inside.seat.me.0.links p.fine own in
-    let l = c.load-word.ensures.2 in
-    let li = p.links_is in
-    let mi = p.mods_is in
-    let e = l.node c.args.link.index k.0 (omega (arith, li, mi)) k.1 in
-    let d = div-add-mod' c.load-word.result 4294967296 in
-    sym (ap (λ v. node_in c.args.link.index v.links) is) ∙ (k.1 ∙ ap Some (sym e ∙ sym d))
+    let e = c.load-word.ensures.2.node c.args.link.index k.0 (omega (arith, p.links_is, p.mods_is)) k.1 in
+    sym (ap (λ v. node_in c.args.link.index v.links) is) ∙ (k.1 ∙ ap Some (sym e ∙ sym (div-add-mod' c.load-word.result 4294967296)))

@@ -1,6 +1,5 @@
 use Rattle.std.proofs.Common.{◌≡◌, Some}
-use Rattle.psac_slots.specs.Claiming.{Accounted}
-use Rattle.psac_readers.specs.Swept.{Going, remaining}
+use Rattle.psac_readers.proofs.Terms.{Accounted, Going, remaining}
 use Rattle.psac_readers.proofs.readers.Readers.take_off.Given as goal
 
 abbrev pub invariant-loop-word : goal.invariant-loop-word

@@ -1,10 +1,5 @@
 use Rattle.std.proofs.Common.{◌≡◌, ◌⊎◌, ◌-◌, ◌<◌, ◌∷◌, ◌++◌, length, true, sym, ap, subst, ◌∙◌, arith}
-use Rattle.std.specs.Prelude.{sum_by}
-use Rattle.psac_readers.specs.declared.view.ReadersView.{ReadersView}
-use Rattle.psac_readers.specs.Chained.{next_at, named, alive, deads}
-use Rattle.psac_readers.specs.Steps.{swept_one}
-use Rattle.psac_readers.specs.Passes.{Placing}
-use Rattle.psac_readers.specs.Swept.{Going, remaining}
+use Rattle.psac_readers.proofs.Terms.{sum_by, ReadersView, next_at, named, alive, deads, swept_one, Placing, Going, remaining}
 use Rattle.psac_readers.proofs.Walking.{named_low}
 use Rattle.psac_readers.proofs.Sweeping.{first_of, left_over, on_it, walks_it, names_it, leads_on, placed_it, stayed, stayed_rest, went, went_rest, shorter}
 use Rattle.psac_readers.proofs.readers.Readers.turn.Goals as goal
@@ -15,9 +10,7 @@ overflow_cast-link c =
     let f = first_of c.args.word q.2.rest q.2.word_is c.requires.more in
     let own = subst (λ (u : ReadersView). 0 < sum_by (named (c.args.word - 1)) u.links) (sym (ap (λ p. p.knows) c.pass.view_is)) (names_it _ _ _ _ _ _ q.2 f.0 f.1) in
     let p = c.pass.invariant.1 in
-    let low = named_low _ (c.args.word - 1) c.pass.inside.seat.me.0.links p.fine own in
-    let s = p.small in
-    omega (arith, low, s)
+    omega (arith, named_low _ (c.args.word - 1) c.pass.inside.seat.me.0.links p.fine own, p.small)
 
 pub after-next-requires-clause-walk : goal.after-next-requires-clause-walk
 after-next-requires-clause-walk c =
@@ -56,8 +49,7 @@ returns-then-goes-clause-going c = λ v m g.
     let same = ap (λ p. p.knows) (c.goes.ensures.same ∙ c.after-next.ensures.same) in
     let why = subst (λ (u : ReadersView). (c.args.all ≡ true) ⊎ (0 < sum_by (deads (word - 1)) u.links)) (ap (λ p. p.knows) c.after-next.ensures.same) (c.goes.ensures.goes c.if-goes.true) in
     let g2 = went c.args.all v w m before word g f.0 f.1 c.after-next.result n why in
-    let e = c.free_link.ensures.freed ∙ ap (swept_one (word - 1)) same in
-    subst (λ u. Going c.args.all v m u before c.after-next.result) (sym e) g2
+    subst (λ u. Going c.args.all v m u before c.after-next.result) (sym (c.free_link.ensures.freed ∙ ap (swept_one (word - 1)) same)) g2
 
 pub returns-then-goes-clause-less : goal.returns-then-goes-clause-less
 returns-then-goes-clause-less c = λ v m g.
@@ -73,8 +65,7 @@ returns-then-goes-clause-less c = λ v m g.
     let a = ap (λ u. remaining m u c.after-next.result) e ∙ left_over c.args.all v (swept_one (word - 1) w) m before c.after-next.result g2 in
     let b = left_over c.args.all v w m before word g in
     let s = shorter c.args.all v w m before word g f.0 f.1 in
-    let r = ap length (went_rest c.args.all v w m before word g f.0 f.1 c.after-next.result n why) in
-    omega (arith, a, b, s, r)
+    omega (arith, a, b, s, ap length (went_rest c.args.all v w m before word g f.0 f.1 c.after-next.result n why))
 
 pub returns-else-goes-clause-going : goal.returns-else-goes-clause-going
 returns-else-goes-clause-going c = λ v m g.
@@ -107,7 +98,5 @@ returns-else-goes-clause-less c = λ v m g.
     let at = c.next_place.ensures ∙ (λ j. next_at ((sym p.links_is ∙ ap (λ (u : ReadersView). u.claims.count) iv) j) ((sym p.mods_is ∙ ap (λ (u : ReadersView). u.mods) iv) j) (word - 1)) in
     let g2 = stayed c.args.all v w m before word g f.0 f.1 c.after-next.result c.next_place.result n at st.0 up in
     let a = ap (λ u. remaining m u c.after-next.result) same ∙ left_over c.args.all v w m c.next_place.result c.after-next.result g2 in
-    let b = left_over c.args.all v w m before word g in
-    let s = shorter c.args.all v w m before word g f.0 f.1 in
     let r = ap length (stayed_rest c.args.all v w m before word g f.0 f.1 c.after-next.result c.next_place.result n at st.0 up) in
-    omega (arith, a, b, s, r)
+    omega (arith, a, left_over c.args.all v w m before word g, shorter c.args.all v w m before word g f.0 f.1, r)

@@ -1,13 +1,5 @@
-use Rattle.std.proofs.Common.{ℕ, suc, ◌+◌, ◌*◌, ◌%◌, ◌/◌, ◌∷◌, [], List, map, ◌≤◌, ◌<◌, ◌≡◌, length, sym, ap, subst, ◌∙◌, arith, mod-lt, refl, cond, ltb, zero, inl}
-use Rattle.std.proofs.lemmas.Bool.{lt-ltb}
-use Rattle.psac_ops.specs.declared.plain.Handle.{Handle}
-use Rattle.psac_slots.specs.Handles.{Member}
-use Rattle.psac_slots.specs.Claiming.{entry}
-use Rattle.psac_slots.proofs.Pairs.{member_right, map_member}
-use Rattle.psac_values.specs.declared.view.ValueView.{ValueView}
-use Rattle.psac_values.specs.Valued.{state_at}
-use Rattle.psac_values.specs.Steps.{Tells, Lacks, drew, new_state, marked}
-use Rattle.psac_values.specs.Carried.{Carries}
+use Rattle.std.proofs.Common.{ℕ, suc, ◌+◌, ◌*◌, ◌%◌, ◌/◌, ◌∷◌, ◌++◌, [], List, map, ◌≤◌, ◌<◌, ◌≡◌, length, sym, ap, subst, ◌∙◌, arith, mod-lt, refl, cond, ltb, zero, inl}
+use Rattle.psac_values.proofs.Terms.{lt-ltb, Step, Handle, Member, slot_times, entry, member_right, map_member, ValueView, state_at, handle_of, Seat, Drew, Loaded, Tells, Lacks, drew, new_state, marked, Carries, took}
 use Rattle.psac_values.proofs.Acts.{draws, loads, marks}
 use Rattle.psac_values.proofs.Carrying.{carries_past, carries_took, found_here, drawn_once}
 use Rattle.psac_values.proofs.values.Values.claim.Goals as goal
@@ -17,9 +9,7 @@ fetch_add-index-requires c =
     let is = c.pass.view_is in
     let p = c.pass.invariant.1 in
     let t = ap (λ p. p.table) is ∙ (c.requires.table ∙ sym c.self.view_is) in
-    let w = ap (λ z. z.words) t in
-    let z = p.words_is in
-    (t, omega (arith, w, z), draws _ _ _ _ c.pass.inside.seat.me.0 c.pass.inside.seat.me.1 p.live (ap (λ p. p.knows.claims.over) is ∙ c.requires.room))
+    (t, omega (arith, ap (λ z. z.words) t, p.words_is), draws _ _ _ _ c.pass.inside.seat.me.0 c.pass.inside.seat.me.1 p.live (ap (λ p. p.knows.claims.over) is ∙ c.requires.room))
 
 past : (list : List Handle) (n : ℕ) → length list ≤ n → entry list n ≡ []
 past [] zero l = refl
@@ -29,72 +19,63 @@ past (x ∷ list) (suc n) l = past list n (omega (arith, l))
 
 pub load-word-requires : goal.load-word-requires
 load-word-requires c =
-    let is = c.pass.view_is in
-    let d = c.fetch_add-index.ensures in
     let p = c.pass.invariant.1 in
-    let t = ap (λ p. p.table) is ∙ (c.requires.table ∙ sym c.self.view_is) in
-    let w = ap (λ z. z.words) t in
-    let z = p.words_is in
-    let r = c.if-index-room.false in
-    let q = c.from-room.ensures in
+    let d = c.fetch_add-index.ensures in
+    let t = ap (λ p. p.table) c.pass.view_is ∙ (c.requires.table ∙ sym c.self.view_is) in
     let k = c.from-2.ensures in
-    let f = p.room_fits in
-    let m = mod-lt (c.from.result + c.fetch_add-index.result) {m = c.from-2.result} (omega (arith, r, q, k, f)) in
-    (d.0 ∙ t, omega (arith, w, z, m, k), loads _ _ _ _ _ c.fetch_add-index.new.seat.me.0 c.fetch_add-index.new.seat.me.1 (ap (λ m. m.0.claims.live) d.2.drawn ∙ p.live))
+    let m = mod-lt (c.from.result + c.fetch_add-index.result) {m = c.from-2.result} (omega (arith, c.if-index-room.false, c.from-room.ensures, k, p.room_fits)) in
+    (d.0 ∙ t, omega (arith, ap (λ z. z.words) t, p.words_is, m, k), loads _ _ _ _ _ c.fetch_add-index.new.seat.me.0 c.fetch_add-index.new.seat.me.1 (ap (λ m. m.0.claims.live) d.2.drawn ∙ p.live))
 
 one_more : (n : ℕ) → n + 1 ≡ suc n
 one_more n = omega arith
 
+abbrev handle_at : ℕ → Handle
+handle_at word = record { slot = word % 4294967296; generation = word / 4294967296 }
+
+-- what a claim has after the load: the word is the list's entry at the index, a handle that the pass lacked
+record Got (me two : Seat) (n word : ℕ) : Type 0 where
+  drawn : two ≡ (drew me.0 n, me.1)
+  listed : entry me.0.claims.list n ≡ handle_at word ∷ []
+  member : Member (handle_at word) (entry me.0.claims.list n)
+  low : (handle_at word).slot < me.0.claims.count
+  lacks : Lacks me.0 (me.0.fixed + (handle_at word).slot)
+  once : slot_times (handle_at word).slot (map handle_of me.0.states ++ handle_at word ∷ []) ≤ 1
+
+got : (fixed count head room words n word from size : ℕ) (s t : Step (Unit {0})) (me one two : Seat) (p : Carries fixed count head room words me.0) → Drew s me n one → Loaded t one word two
+    → t.word ≡ (from + n) % size + 1 → from ≡ head → size ≡ count → n < length me.0.claims.list → Got me two n word
+got fixed count head room words n word from size s t me one two p d l is a b small =
+    let tells = subst (λ (k : ValueView). Tells k t.word word) (ap (λ m. m.0) d.drawn) l.tells in
+    let f = found_here fixed count head room words me.0 p n word t.word small (is ∙ (one_more _ ∙ (λ j. suc ((a j + n) % b j)))) tells in
+    let mem : Member (handle_at word) (entry me.0.claims.list n) = subst (Member (handle_at word)) (sym f) (inl refl) in
+    record { drawn = l.same ∙ d.drawn; listed = f; member = mem; low = d.low (handle_at word) mem; lacks = d.new (handle_at word) mem; once = drawn_once me.0 n (handle_at word) t.word word f tells }
+
 pub store-requires : goal.store-requires
 store-requires c =
-    let is = c.pass.view_is in
     let p = c.pass.invariant.1 in
     let v = c.pass.inside.seat.me.0 in
-    let d = c.fetch_add-index.ensures in
-    let l = c.load-word.ensures in
-    let r = c.if-index-room.false in
-    let q = c.from-room.ensures in
-    let m = p.room_is in
     let n = c.fetch_add-index.result in
-    let e = ap (λ m. m.0) (l.2.same ∙ d.2.drawn) in
-    let small : n < length v.claims.list = omega (arith, r, q, m) in
-    let here : (c.from.result + n) % c.from-2.result + 1 ≡ suc ((c.pass.inside.head + n) % c.pass.inside.count) = one_more _ ∙ (λ j. suc ((c.from.ensures j + n) % c.from-2.ensures j)) in
-    let tells = subst (λ (k : ValueView). Tells k ((c.from.result + n) % c.from-2.result + 1) c.load-word.result) (ap (λ m. m.0) d.2.drawn) l.2.tells in
-    let f = found_here _ _ _ _ _ v p n c.load-word.result _ small here tells in
-    let h : Handle = record { slot = c.load-word.result % 4294967296; generation = c.load-word.result / 4294967296 } in
-    let mem : Member h (entry v.claims.list n) = subst (Member h) (sym f) (inl refl) in
-    let low = d.2.low h mem in
-    let t = ap (λ p. p.table) is ∙ (c.requires.table ∙ sym c.self.view_is) in
-    let w = ap (λ z. z.words) t in
-    let z = p.words_is in
-    let k = p.count_is in
-    let k' = ap (λ (u : ValueView). u.claims.count) e in
-    let mine = subst (λ (u : ValueView). Member (new_state h) u.states) (sym e) (member_right (new_state h) v.states (map new_state (entry v.claims.list n)) (map_member new_state h (entry v.claims.list n) mem)) in
-    let spot : c.pass.inside.count + h.slot + 1 ≡ state_at c.load-word.new.seat.me.0.claims.count h.slot = omega (arith, k, k') in
-    (l.0 ∙ (d.0 ∙ t), omega (arith, w, z, low, k), marks _ _ _ _ _ c.load-word.new.seat.me.0 c.load-word.new.seat.me.1 (ap (λ (u : ValueView). u.claims.live) e ∙ p.live) (new_state h) _ mine spot)
+    let h = handle_at c.load-word.result in
+    let g = got _ _ _ _ _ n _ _ _ _ _ _ _ _ p c.fetch_add-index.ensures.2 c.load-word.ensures.2 refl c.from.ensures c.from-2.ensures (omega (arith, c.if-index-room.false, c.from-room.ensures, p.room_is)) in
+    let t = ap (λ p. p.table) c.pass.view_is ∙ (c.requires.table ∙ sym c.self.view_is) in
+    let mine = subst (λ (u : Seat). Member (new_state h) u.0.states) (sym g.drawn) (member_right (new_state h) v.states (map new_state (entry v.claims.list n)) (map_member new_state h (entry v.claims.list n) g.member)) in
+    let spot : c.pass.inside.count + h.slot + 1 ≡ state_at c.load-word.new.seat.me.0.claims.count h.slot = omega (arith, p.count_is, ap (λ (u : Seat). u.0.claims.count) g.drawn) in
+    (c.load-word.ensures.0 ∙ (c.fetch_add-index.ensures.0 ∙ t), omega (arith, ap (λ z. z.words) t, p.words_is, g.low, p.count_is), marks _ _ _ _ _ c.load-word.new.seat.me.0 c.load-word.new.seat.me.1 (ap (λ (u : Seat). u.0.claims.live) g.drawn ∙ p.live) (new_state h) _ mine spot)
 
 pub overflow_add-result : goal.overflow_add-result
 overflow_add-result c =
-    let is = c.pass.view_is in
     let p = c.pass.invariant.1 in
-    let v = c.pass.inside.seat.me.0 in
-    let d = c.fetch_add-index.ensures in
-    let l = c.load-word.ensures in
-    let r = c.if-index-room.false in
-    let q = c.from-room.ensures in
-    let m = p.room_is in
-    let n = c.fetch_add-index.result in
-    let e = ap (λ m. m.0) (l.2.same ∙ d.2.drawn) in
-    let small : n < length v.claims.list = omega (arith, r, q, m) in
-    let here : (c.from.result + n) % c.from-2.result + 1 ≡ suc ((c.pass.inside.head + n) % c.pass.inside.count) = one_more _ ∙ (λ j. suc ((c.from.ensures j + n) % c.from-2.ensures j)) in
-    let tells = subst (λ (k : ValueView). Tells k ((c.from.result + n) % c.from-2.result + 1) c.load-word.result) (ap (λ m. m.0) d.2.drawn) l.2.tells in
-    let f = found_here _ _ _ _ _ v p n c.load-word.result _ small here tells in
-    let h : Handle = record { slot = c.load-word.result % 4294967296; generation = c.load-word.result / 4294967296 } in
-    let mem : Member h (entry v.claims.list n) = subst (Member h) (sym f) (inl refl) in
-    let low = d.2.low h mem in
-    let k = p.count_is in
-    let s = p.small in
-    omega (arith, low, k, s)
+    let g = got _ _ _ _ _ _ _ _ _ _ _ _ _ _ p c.fetch_add-index.ensures.2 c.load-word.ensures.2 refl c.from.ensures c.from-2.ensures (omega (arith, c.if-index-room.false, c.from-room.ensures, p.room_is)) in
+    omega (arith, g.low, p.count_is, p.small)
+
+-- what the claim leaves
+left : (c : goal.After-store) → Got c.pass.inside.seat.me c.load-word.new.seat.me c.fetch_add-index.result c.load-word.result
+    × (c.store.new.seat.me ≡ (took c.pass.inside.seat.me.0 c.fetch_add-index.result (handle_at c.load-word.result), c.pass.inside.seat.me.1))
+left c =
+    let p = c.pass.invariant.1 in
+    let h = handle_at c.load-word.result in
+    let g = got _ _ _ _ _ _ _ _ _ _ _ _ _ _ p c.fetch_add-index.ensures.2 c.load-word.ensures.2 refl c.from.ensures c.from-2.ensures (omega (arith, c.if-index-room.false, c.from-room.ensures, p.room_is)) in
+    let spot : c.pass.inside.count + h.slot + 1 ≡ state_at c.load-word.new.seat.me.0.claims.count h.slot = omega (arith, p.count_is, ap (λ (u : Seat). u.0.claims.count) g.drawn) in
+    (g, c.store.ensures.2 h.slot spot ∙ (λ j. (marked h.slot (one_more (2 * h.generation) j) (g.drawn j).0, (g.drawn j).1)))
 
 -- a claim below the room leaves the pass with no index past it
 within : (n : ℕ) (over : ℕ) (list : List Handle) → n < length list → over ≡ 0 → over + cond (ltb n (length list)) 0 1 ≡ 0
@@ -102,108 +83,44 @@ within n over list l e = rw (lt-ltb n (length list) l) (omega (arith, e))
 
 pub returns-clause-ok : goal.returns-clause-ok
 returns-clause-ok c =
-    let is = c.pass.view_is in
-    let p = c.pass.invariant.1 in
-    let v = c.pass.inside.seat.me.0 in
-    let d = c.fetch_add-index.ensures in
-    let l = c.load-word.ensures in
-    let r = c.if-index-room.false in
-    let q = c.from-room.ensures in
-    let m = p.room_is in
+    let l = left c in
     let n = c.fetch_add-index.result in
-    let e = ap (λ m. m.0) (l.2.same ∙ d.2.drawn) in
-    let small : n < length v.claims.list = omega (arith, r, q, m) in
-    let here : (c.from.result + n) % c.from-2.result + 1 ≡ suc ((c.pass.inside.head + n) % c.pass.inside.count) = one_more _ ∙ (λ j. suc ((c.from.ensures j + n) % c.from-2.ensures j)) in
-    let tells = subst (λ (k : ValueView). Tells k ((c.from.result + n) % c.from-2.result + 1) c.load-word.result) (ap (λ m. m.0) d.2.drawn) l.2.tells in
-    let f = found_here _ _ _ _ _ v p n c.load-word.result _ small here tells in
-    let h : Handle = record { slot = c.load-word.result % 4294967296; generation = c.load-word.result / 4294967296 } in
-    let mem : Member h (entry v.claims.list n) = subst (Member h) (sym f) (inl refl) in
-    let low = d.2.low h mem in
-    let old = ap (λ p. p.knows) is in
-    let long = ap (λ (u : ValueView). length u.claims.list) old in
-    let k = p.count_is in
-    let k' = ap (λ (u : ValueView). u.claims.count) e in
-    let spot : c.pass.inside.count + h.slot + 1 ≡ state_at c.load-word.new.seat.me.0.claims.count h.slot = omega (arith, k, k') in
-    let g = ap (λ m. m.0) (c.store.ensures.2 h.slot spot) in (
+    let h = handle_at c.load-word.result in
+    let old = ap (λ p. p.knows) c.pass.view_is in (
       n,
       h,
-      omega (arith, small, long),
-      sym (ap (λ (u : ValueView). entry u.claims.list n) old) ∙ f,
-      (λ j. record { slot = (sym p.fixed_is ∙ ap (λ (u : ValueView). u.fixed) old) j + h.slot; generation = h.generation }),
-      g ∙ (λ j. marked h.slot (one_more (2 * h.generation) j) ((e ∙ ap (λ u. drew u n) old) j)),
+      omega (arith, c.if-index-room.false, c.from-room.ensures, c.pass.invariant.1.room_is, ap (λ (u : ValueView). length u.claims.list) old),
+      sym (ap (λ (u : ValueView). entry u.claims.list n) old) ∙ l.0.listed,
+      (λ j. record { slot = (sym c.pass.invariant.1.fixed_is ∙ ap (λ (u : ValueView). u.fixed) old) j + h.slot; generation = h.generation }),
+      ap (λ m. m.0) l.1 ∙ ap (λ u. took u n h) old,
     )
 
 pub returns-clause-new : goal.returns-clause-new
-returns-clause-new c =
-    let is = c.pass.view_is in
-    let p = c.pass.invariant.1 in
-    let v = c.pass.inside.seat.me.0 in
-    let d = c.fetch_add-index.ensures in
-    let l = c.load-word.ensures in
-    let r = c.if-index-room.false in
-    let q = c.from-room.ensures in
-    let m = p.room_is in
-    let n = c.fetch_add-index.result in
-    let e = ap (λ m. m.0) (l.2.same ∙ d.2.drawn) in
-    let small : n < length v.claims.list = omega (arith, r, q, m) in
-    let here : (c.from.result + n) % c.from-2.result + 1 ≡ suc ((c.pass.inside.head + n) % c.pass.inside.count) = one_more _ ∙ (λ j. suc ((c.from.ensures j + n) % c.from-2.ensures j)) in
-    let tells = subst (λ (k : ValueView). Tells k ((c.from.result + n) % c.from-2.result + 1) c.load-word.result) (ap (λ m. m.0) d.2.drawn) l.2.tells in
-    let f = found_here _ _ _ _ _ v p n c.load-word.result _ small here tells in
-    let h : Handle = record { slot = c.load-word.result % 4294967296; generation = c.load-word.result / 4294967296 } in
-    let mem : Member h (entry v.claims.list n) = subst (Member h) (sym f) (inl refl) in
-    let low = d.2.low h mem in
-    let old = ap (λ p. p.knows) is in
-    subst (λ (x : ValueView × ℕ). Lacks x.0 (x.1 + h.slot)) (λ j. (old j, p.fixed_is j)) (d.2.new h mem)
+returns-clause-new c = subst (λ (x : ValueView × ℕ). Lacks x.0 (x.1 + (handle_at c.load-word.result).slot)) (λ j. (ap (λ p. p.knows) c.pass.view_is j, c.pass.invariant.1.fixed_is j)) (left c).0.lacks
 
 pub invariant_of-pass : goal.invariant_of-pass
 invariant_of-pass c =
     let p = c.pass.invariant.1 in
-    let v = c.pass.inside.seat.me.0 in
     let d = c.fetch_add-index.ensures in
-    let r = c.if-index-room.true in
-    let q = c.from-room.ensures in
-    let m = p.room_is in
     let e = d.2.drawn in (
       ap (λ m. m.1) e ∙ c.pass.invariant.0,
       subst (λ (x : ℕ × ValueView). Carries c.pass.inside.fixed c.pass.inside.count c.pass.inside.head c.pass.inside.room x.0 x.1) (λ j. (ap (λ z. z.words) (sym d.0) j, ap (λ m. m.0) (sym e) j))
-          (carries_past _ _ _ _ _ v p c.fetch_add-index.result (past v.claims.list c.fetch_add-index.result (omega (arith, r, q, m)))),
+          (carries_past _ _ _ _ _ c.pass.inside.seat.me.0 p c.fetch_add-index.result (past _ c.fetch_add-index.result (omega (arith, c.if-index-room.true, c.from-room.ensures, p.room_is)))),
     )
 
 pub invariant_of-pass-2 : goal.invariant_of-pass-2
 invariant_of-pass-2 c =
-    let is = c.pass.view_is in
-    let p = c.pass.invariant.1 in
-    let v = c.pass.inside.seat.me.0 in
-    let d = c.fetch_add-index.ensures in
-    let l = c.load-word.ensures in
-    let r = c.if-index-room.false in
-    let q = c.from-room.ensures in
-    let m = p.room_is in
-    let n = c.fetch_add-index.result in
-    let e = ap (λ m. m.0) (l.2.same ∙ d.2.drawn) in
-    let small : n < length v.claims.list = omega (arith, r, q, m) in
-    let here : (c.from.result + n) % c.from-2.result + 1 ≡ suc ((c.pass.inside.head + n) % c.pass.inside.count) = one_more _ ∙ (λ j. suc ((c.from.ensures j + n) % c.from-2.ensures j)) in
-    let tells = subst (λ (k : ValueView). Tells k ((c.from.result + n) % c.from-2.result + 1) c.load-word.result) (ap (λ m. m.0) d.2.drawn) l.2.tells in
-    let f = found_here _ _ _ _ _ v p n c.load-word.result _ small here tells in
-    let h : Handle = record { slot = c.load-word.result % 4294967296; generation = c.load-word.result / 4294967296 } in
-    let mem : Member h (entry v.claims.list n) = subst (Member h) (sym f) (inl refl) in
-    let low = d.2.low h mem in
-    let k = p.count_is in
-    let k' = ap (λ (u : ValueView). u.claims.count) e in
-    let spot : c.pass.inside.count + h.slot + 1 ≡ state_at c.load-word.new.seat.me.0.claims.count h.slot = omega (arith, k, k') in
-    let s = c.store.ensures in
-    let g = s.2 h.slot spot in
-    let view = ap (λ m. m.0) g ∙ (λ j. marked h.slot (one_more (2 * h.generation) j) (e j)) in (
-      ap (λ m. m.1) g ∙ (ap (λ m. m.1) (l.2.same ∙ d.2.drawn) ∙ c.pass.invariant.0),
-      subst (λ (x : ℕ × ValueView). Carries c.pass.inside.fixed c.pass.inside.count c.pass.inside.head c.pass.inside.room x.0 x.1) (λ j. (ap (λ z. z.words) (sym (s.0 ∙ (l.0 ∙ d.0))) j, sym view j))
-          (carries_took _ _ _ _ _ v p n h f low (drawn_once v n h _ _ f tells)),
+    let l = left c in (
+      ap (λ m. m.1) l.1 ∙ c.pass.invariant.0,
+      subst (λ (x : ℕ × ValueView). Carries c.pass.inside.fixed c.pass.inside.count c.pass.inside.head c.pass.inside.room x.0 x.1)
+          (λ j. (ap (λ z. z.words) (sym (c.store.ensures.0 ∙ (c.load-word.ensures.0 ∙ c.fetch_add-index.ensures.0))) j, sym (ap (λ m. m.0) l.1) j))
+          (carries_took _ _ _ _ _ c.pass.inside.seat.me.0 c.pass.invariant.1 c.fetch_add-index.result (handle_at c.load-word.result) l.0.listed l.0.low l.0.once),
     )
 
 pub returns-clause-room : goal.returns-clause-room
 returns-clause-room c =
     let r = returns-clause-ok c in
-    let w = ap (λ (u : ValueView). u.claims.over) r.5 in
-    w ∙ within r.0 c.args.pass.now.knows.claims.over c.args.pass.now.knows.claims.list r.2 c.requires.room
+    ap (λ (u : ValueView). u.claims.over) r.5 ∙ within r.0 c.args.pass.now.knows.claims.over c.args.pass.now.knows.claims.list r.2 c.requires.room
 
 pub returns-clause-branch : goal.returns-clause-branch
 returns-clause-branch c = ap (λ (u : ValueView). u.claims.branch) (returns-clause-ok c).5

@@ -1,6 +1,5 @@
 use Rattle.std.proofs.Common.{ℕ, length, sym, ap, subst, ◌∙◌, arith}
-use Rattle.psac_values.specs.declared.view.ValueView.{ValueView}
-use Rattle.psac_values.specs.Carried.{Carries}
+use Rattle.psac_values.proofs.Terms.{ValueView, Carries}
 use Rattle.psac_values.proofs.Acts.{splits}
 use Rattle.psac_values.proofs.Carrying.{carries_left, carries_right}
 use Rattle.psac_values.proofs.values.Values.fork.Goals as goal
@@ -10,11 +9,8 @@ split_seat-other-requires g c =
     let is = c.pass.view_is in
     let p = c.pass.invariant.1 in
     let t = ap (λ p. p.table) is ∙ (c.requires.table ∙ sym c.self.view_is) in
-    let w = ap (λ z. z.words) t in
-    let z = p.words_is in
     let short = ap (λ p. length p.knows.claims.branch) is in
-    let s = c.requires.short in
-    (t, omega (arith, w, z), splits _ _ g.D.ValuesSplit.shared g.D.ValuesSplit.to_right _ c.pass.inside.seat.me.0 p.live (ap (λ p. p.knows.claims.over) is ∙ c.requires.room) (omega (arith, short, s)))
+    (t, omega (arith, ap (λ z. z.words) t, p.words_is), splits _ _ g.D.ValuesSplit.shared g.D.ValuesSplit.to_right _ c.pass.inside.seat.me.0 p.live (ap (λ p. p.knows.claims.over) is ∙ c.requires.room) (omega (arith, short, c.requires.short)))
 
 pub invariant_of-result : goal.invariant_of-result
 invariant_of-result g c =

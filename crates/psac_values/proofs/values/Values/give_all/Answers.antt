@@ -1,9 +1,6 @@
 use Rattle.std.proofs.Common.{◌≡◌, suc, ◌+◌, sym, ap, subst, ◌∙◌, arith}
-use Rattle.psac_slots.specs.Handles.{Member}
-use Rattle.psac_slots.proofs.Pairs.{member_filter}
-use Rattle.psac_values.specs.declared.view.ValueView.{ValueView}
-use Rattle.psac_values.specs.Steps.{rewound, gave_slot, gave_all}
-use Rattle.psac_values.proofs.Giving.{held_from, gave_below, begins, goes_on, ends}
+use Rattle.psac_values.proofs.Terms.{Member, member_filter, ValueView, rewound, gave_slot, gave_all, held_from}
+use Rattle.psac_values.proofs.Giving.{gave_below, begins, goes_on, ends}
 use Rattle.psac_values.proofs.values.Values.give_all.Goals as goal
 
 pub loop-slot-init : goal.loop-slot-init
@@ -17,11 +14,9 @@ give_slot-requires-clause-begun c = ap (λ (u : ValueView). u.claims.counter) c.
 
 pub give_slot-requires-clause-below : goal.give_slot-requires-clause-below
 give_slot-requires-clause-below c =
-    let a = c.loop-slot-test.true in
     let b = ap (λ (u : ValueView). u.claims.count) c.loop-slot.invariant.1 in
     let d = ap (λ (u : ValueView). u.claims.count) (ap (λ p. p.knows) c.pass.view_is ∙ c.rewind.ensures.rewound) in
-    let k = c.pass.invariant.1.count_is in
-    omega (arith, a, b, d, k)
+    omega (arith, c.loop-slot-test.true, b, d, c.pass.invariant.1.count_is)
 
 pub give_slot-requires-clause-next : goal.give_slot-requires-clause-next
 give_slot-requires-clause-next c = λ h m.
@@ -44,6 +39,4 @@ returns-clause-table c = c.loop-slot.invariant.0
 pub returns-clause-gave : goal.returns-clause-gave
 returns-clause-gave c =
     let e = ap (λ p. p.knows) c.pass.view_is ∙ c.rewind.ensures.rewound in
-    let a = c.loop-slot-test.false in
-    let b = c.loop-slot.auto.slot-end in
-    c.loop-slot.invariant.1 ∙ (ap (gave_below c.loop-slot.slot) (sym e) ∙ (ends _ _ _ _ _ c.pass.inside.seat.me.0 c.pass.invariant.1 c.loop-slot.slot (omega (arith, a, b)) ∙ ap gave_all e))
+    c.loop-slot.invariant.1 ∙ (ap (gave_below c.loop-slot.slot) (sym e) ∙ (ends _ _ _ _ _ c.pass.inside.seat.me.0 c.pass.invariant.1 c.loop-slot.slot (omega (arith, c.loop-slot-test.false, c.loop-slot.auto.slot-end)) ∙ ap gave_all e))

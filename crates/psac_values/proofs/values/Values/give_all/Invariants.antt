@@ -1,6 +1,5 @@
 use Rattle.std.proofs.Common.{◌≡◌}
-use Rattle.psac_slots.specs.Claiming.{Accounted}
-use Rattle.psac_values.specs.Steps.{rewound}
+use Rattle.psac_values.proofs.Terms.{Accounted, rewound}
 use Rattle.psac_values.proofs.Giving.{gave_below}
 use Rattle.psac_values.proofs.values.Values.give_all.Given as goal
 

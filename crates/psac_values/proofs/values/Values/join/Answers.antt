@@ -1,14 +1,5 @@
 use Rattle.std.proofs.Common.{ℕ, ◌≡◌, ◌<◌, ◌+◌, sym, ap, subst, ◌∙◌, arith, refl, length, Option, Some}
-use Rattle.std.specs.Prelude.{IfSome}
-use Rattle.psac_slots.specs.Handles.{Member}
-use Rattle.psac_values.specs.declared.view.MetView.{MetView}
-use Rattle.psac_values.specs.declared.view.OwnedView.{OwnedView}
-use Rattle.psac_values.specs.declared.view.StateView.{StateView}
-use Rattle.psac_values.specs.declared.view.ValueView.{ValueView}
-use Rattle.psac_values.specs.Valued.{Meeting}
-use Rattle.psac_values.specs.Steps.{joined}
-use Rattle.psac_values.specs.Carried.{Carries}
-use Rattle.psac_values.specs.Knowing.{United}
+use Rattle.psac_values.proofs.Terms.{IfSome, Member, MetView, OwnedView, StateView, ValueView, Meeting, joined, Carries, United}
 use Rattle.psac_values.proofs.Acts.{joins, settles}
 use Rattle.psac_values.proofs.Carrying.{carries_joined, unites_views}
 use Rattle.psac_values.proofs.values.Values.join.Goals as goal
@@ -18,22 +9,17 @@ join_seat-requires c =
     let il = c.left.view_is in
     let ir = c.right.view_is in
     let p = c.left.invariant.1 in
-    let q = c.right.invariant.1 in
     let tl = ap (λ p. p.table) il ∙ (c.requires.table.0 ∙ sym c.self.view_is) in
     let tr = ap (λ p. p.table) ir ∙ (c.requires.table.1 ∙ sym c.self.view_is) in
-    let w = ap (λ z. z.words) tl in
-    let z = p.words_is in
     let b = c.requires.sides in
-    (tl, tr, c.right.invariant.0, omega (arith, w, z), joins _ _ _ _ c.left.inside.seat.me.0 c.right.inside.seat.me.0 b.0 p.live q.live (ap (λ p. p.knows.claims.branch) il ∙ b.1) (ap (λ p. p.knows.claims.branch) ir ∙ b.2))
+    (tl, tr, c.right.invariant.0, omega (arith, ap (λ z. z.words) tl, p.words_is), joins _ _ _ _ c.left.inside.seat.me.0 c.right.inside.seat.me.0 b.0 p.live c.right.invariant.1.live (ap (λ p. p.knows.claims.branch) il ∙ b.1) (ap (λ p. p.knows.claims.branch) ir ∙ b.2))
 
 pub load-requires : goal.load-requires
 load-requires c =
     let j = c.join_seat.ensures in
     let p = c.left.invariant.1 in
     let tl = ap (λ p. p.table) c.left.view_is ∙ (c.requires.table.0 ∙ sym c.self.view_is) in
-    let w = ap (λ z. z.words) tl in
-    let z = p.words_is in
-    (j.0 ∙ tl, omega (arith, w, z), settles _ _ _ _ _ c.join_seat.new.seat.me.0 c.join_seat.new.seat.me.1 (ap (λ m. m.0.claims.live) j.2 ∙ p.live))
+    (j.0 ∙ tl, omega (arith, ap (λ z. z.words) tl, p.words_is), settles _ _ _ _ _ c.join_seat.new.seat.me.0 c.join_seat.new.seat.me.1 (ap (λ m. m.0.claims.live) j.2 ∙ p.live))
 
 pub returns-clause-joined : goal.returns-clause-joined
 returns-clause-joined c =
@@ -45,10 +31,9 @@ returns-clause-joined c =
 
 pub returns-clause-united : goal.returns-clause-united
 returns-clause-united c =
-    let j = c.join_seat.ensures in
     let kl = ap (λ p. p.knows) c.left.view_is in
     let kr = ap (λ p. p.knows) c.right.view_is in
-    let m = subst (λ (o : Option MetView). IfSome o Meeting) (ap (λ m. m.0.met) j.2) c.load.ensures.2.meeting in
+    let m = subst (λ (o : Option MetView). IfSome o Meeting) (ap (λ m. m.0.met) c.join_seat.ensures.2) c.load.ensures.2.meeting in
     let u = unites_views c.left.inside.seat.me.0 c.right.inside.seat.me.0 m in
     subst (λ (x : ValueView × ValueView × ValueView). United x.0 x.1 x.2) (λ i. (kl i, kr i, (sym (returns-clause-joined c ∙ (λ k. joined (sym kl k) (sym kr k)))) i)) u
 
@@ -56,10 +41,9 @@ pub invariant_of-result : goal.invariant_of-result
 invariant_of-result c =
     let j = c.join_seat.ensures in
     let l = c.load.ensures in
-    let p = c.left.invariant.1 in
     let q = c.right.invariant.1 in
     let e = l.2.settled ∙ ap (λ m. (record m.0 { met = Rattle.std.proofs.Common.None }, m.1)) j.2 in (
       ap (λ m. m.1) e ∙ c.left.invariant.0,
       subst (λ (x : ℕ × ValueView). Carries c.left.inside.fixed c.left.inside.count c.left.inside.head c.left.inside.room x.0 x.1) (λ i. (ap (λ z. z.words) (sym (l.0 ∙ j.0)) i, ap (λ m. m.0) (sym e) i))
-          (carries_joined _ _ _ _ _ c.left.inside.seat.me.0 p c.right.inside.seat.me.0 q.held_is (λ t m. (q.out t m).0) (subst (λ m. (t : StateView) → Member t m.0.states → t.of.slot < m.0.claims.count) j.2 l.2.states) (subst (λ m. (z : OwnedView) → Member z m.0.mine → (length z.words ≡ 3) × (z.of.slot < m.0.fixed + m.0.claims.count)) j.2 l.2.low)),
+          (carries_joined _ _ _ _ _ c.left.inside.seat.me.0 c.left.invariant.1 c.right.inside.seat.me.0 q.held_is (λ t m. (q.out t m).0) (subst (λ m. (t : StateView) → Member t m.0.states → t.of.slot < m.0.claims.count) j.2 l.2.states) (subst (λ m. (z : OwnedView) → Member z m.0.mine → (length z.words ≡ 3) × (z.of.slot < m.0.fixed + m.0.claims.count)) j.2 l.2.low)),
     )

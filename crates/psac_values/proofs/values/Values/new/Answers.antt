@@ -1,8 +1,5 @@
 use Rattle.std.proofs.Common.{◌≡◌, ℕ, ◌+◌, ◌*◌, ◌∷◌, ◌++◌, [], List, length, map, sym, subst, arith, ◌∙◌, ap, append_assoc}
-use Rattle.psac_slots.specs.Handles.{word_of, fresh}
-use Rattle.psac_values.specs.Valued.{Rule}
-use Rattle.psac_values.specs.Steps.{first_view, first_words, repeated}
-use Rattle.psac_values.specs.Carried.{Carries}
+use Rattle.psac_values.proofs.Terms.{word_of, fresh, Rule, first_view, first_words, repeated, Carries}
 use Rattle.psac_values.proofs.Opens.{opens, length_first, first_carries}
 use Rattle.psac_values.proofs.values.Values.new.Goals as goal
 
@@ -11,19 +8,10 @@ filled fixed count n ws vs is e f = f ∙ (e ∙ (ap (λ k. ((0 ∷ map word_of 
 
 pub of_words-requires : goal.of_words-requires
 of_words-requires c =
-    let t = c.values-test.false in
-    let e = c.values.auto.counter-end in
-    let a = c.from-2.ensures in
-    let b = c.from-3.ensures in
-    subst (λ ws. Rule c.args.fixed c.args.mods ws (first_view c.args.fixed c.args.mods ∷ [])) (sym (filled c.args.fixed c.args.mods c.values.counter _ _ (omega (arith, t, e, a, b)) c.values.invariant c.deref.ensures.value)) (0, 0, fresh c.args.mods, opens c.args.fixed c.args.mods c.requires)
+    subst (λ ws. Rule c.args.fixed c.args.mods ws (first_view c.args.fixed c.args.mods ∷ [])) (sym (filled c.args.fixed c.args.mods c.values.counter _ _ (omega (arith, c.values-test.false, c.values.auto.counter-end, c.from-2.ensures, c.from-3.ensures)) c.values.invariant c.deref.ensures.value)) (0, 0, fresh c.args.mods, opens c.args.fixed c.args.mods c.requires)
 
 pub invariant_of-result : goal.invariant_of-result
 invariant_of-result c =
-    let t = c.values-test.false in
-    let e = c.values.auto.counter-end in
-    let a = c.from-2.ensures in
-    let b = c.from-3.ensures in
-    let n = ap length (filled c.args.fixed c.args.mods c.values.counter _ _ (omega (arith, t, e, a, b)) c.values.invariant c.deref.ensures.value) ∙ length_first c.args.fixed c.args.mods c.requires in
+    let n = ap length (filled c.args.fixed c.args.mods c.values.counter _ _ (omega (arith, c.values-test.false, c.values.auto.counter-end, c.from-2.ensures, c.from-3.ensures)) c.values.invariant c.deref.ensures.value) ∙ length_first c.args.fixed c.args.mods c.requires in
     let o = c.in_ok-table.ensures in
-    let w = ap (λ z. z.words) o.2 in
-    (ap (λ m. m.1) o.4, subst (Carries c.args.fixed c.args.mods 0 c.args.mods c.in_ok-table.seat.table_id.words) (sym (ap (λ m. m.0) o.4)) (first_carries c.args.fixed c.args.mods c.requires c.in_ok-table.seat.table_id.words (omega (arith, n, w, o.0))))
+    (ap (λ m. m.1) o.4, subst (Carries c.args.fixed c.args.mods 0 c.args.mods c.in_ok-table.seat.table_id.words) (sym (ap (λ m. m.0) o.4)) (first_carries c.args.fixed c.args.mods c.requires c.in_ok-table.seat.table_id.words (omega (arith, n, ap (λ z. z.words) o.2, o.0))))

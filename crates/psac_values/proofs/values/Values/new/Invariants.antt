@@ -1,6 +1,5 @@
 use Rattle.std.proofs.Common.{◌≡◌, ◌∷◌, ◌++◌, map}
-use Rattle.psac_slots.specs.Handles.{word_of, fresh}
-use Rattle.psac_values.specs.Steps.{repeated}
+use Rattle.psac_values.proofs.Terms.{word_of, fresh, repeated}
 use Rattle.psac_values.proofs.values.Values.new.Given as goal
 
 abbrev pub invariant-loop-slot : goal.invariant-loop-slot

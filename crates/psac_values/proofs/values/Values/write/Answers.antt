@@ -1,13 +1,5 @@
 use Rattle.std.proofs.Common.{◌≡◌, ℕ, ◌+◌, ◌*◌, [], ◌∷◌, length, get_or, sym, ap, subst, ◌∙◌, arith}
-use Rattle.psac_ops.specs.declared.plain.Handle.{Handle}
-use Rattle.psac_slots.specs.Handles.{Member}
-use Rattle.psac_slots.proofs.Pairs.{map_member}
-use Rattle.psac_values.specs.declared.view.OwnedView.{OwnedView}
-use Rattle.psac_values.specs.declared.view.ValueView.{ValueView}
-use Rattle.psac_values.specs.Carried.{Carries}
-use Rattle.psac_values.specs.Knowing.{Has, wrote}
-use Rattle.psac_values.specs.Steps.{put, wrote_word}
-use Rattle.psac_values.specs.Valued.{value_at}
+use Rattle.psac_values.proofs.Terms.{Handle, Member, map_member, OwnedView, ValueView, Carries, Has, wrote, put, wrote_word, value_at}
 use Rattle.psac_values.proofs.Acts.{writes}
 use Rattle.psac_values.proofs.Carrying.{carries_word, rewrites}
 use Rattle.psac_values.proofs.values.Values.write.Goals as goal
@@ -17,13 +9,9 @@ store-requires c =
     let is = c.pass.view_is in
     let p = c.pass.invariant.1 in
     let t = ap (λ p. p.table) is ∙ (c.requires.table ∙ sym c.self.view_is) in
-    let w = ap (λ z. z.words) t in
-    let z = p.words_is in
     let k = subst (λ (v : ValueView). Has v c.args.m) (sym (ap (λ p. p.knows) is)) c.requires.mine in
     let same = ap (λ (h : Handle). h.slot) k.2 in
-    let low = (p.mine k.0 k.1).1 in
-    let n = p.count_is in
-    (t, omega (arith, w, z, low, same), writes _ _ _ _ _ c.pass.inside.seat.me.0 c.pass.inside.seat.me.1 p.live k.0 0 _ k.1 (omega arith) (omega (arith, n, same)))
+    (t, omega (arith, ap (λ z. z.words) t, p.words_is, (p.mine k.0 k.1).1, same), writes _ _ _ _ _ c.pass.inside.seat.me.0 c.pass.inside.seat.me.1 p.live k.0 0 _ k.1 (omega arith) (omega (arith, p.count_is, same)))
 
 -- an owned entry stays one, with the same slot, whatever word is put
 puts : (s j x : ℕ) (w : OwnedView) (v : ValueView) → Member w v.mine → Member (put s j x w) (wrote_word s j x v).mine
@@ -35,18 +23,15 @@ store-requires-2 c =
     let p = c.pass.invariant.1 in
     let v = c.pass.inside.seat.me.0 in
     let t = ap (λ p. p.table) is ∙ (c.requires.table ∙ sym c.self.view_is) in
-    let w = ap (λ z. z.words) t in
-    let z = p.words_is in
     let k = subst (λ (v : ValueView). Has v c.args.m) (sym (ap (λ p. p.knows) is)) c.requires.mine in
     let same = ap (λ (h : Handle). h.slot) k.2 in
-    let low = (p.mine k.0 k.1).1 in
     let n = p.count_is in
     let s = c.store.ensures in
     let e = s.2 k.0.of.slot 0 (omega arith) (omega (arith, n, same)) in
     let has = subst (λ m. Member (put k.0.of.slot 0 (get_or c.args.words 0 0) k.0) m.0.mine) (sym e) (puts k.0.of.slot 0 (get_or c.args.words 0 0) k.0 v k.1) in
     let n' = ap (λ m. m.0.claims.count) e in
     let here : 1 + 2 * c.pass.inside.count + 3 * c.args.m.slot + 1 ≡ value_at c.store.new.seat.me.0.claims.count k.0.of.slot 1 = omega (arith, n, n', same) in
-    (s.0 ∙ t, omega (arith, w, z, low, same), writes _ _ _ _ _ c.store.new.seat.me.0 c.store.new.seat.me.1 (ap (λ m. m.0.claims.live) e ∙ p.live) _ 1 _ has (omega arith) here)
+    (s.0 ∙ t, omega (arith, ap (λ z. z.words) t, p.words_is, (p.mine k.0 k.1).1, same), writes _ _ _ _ _ c.store.new.seat.me.0 c.store.new.seat.me.1 (ap (λ m. m.0.claims.live) e ∙ p.live) _ 1 _ has (omega arith) here)
 
 pub store-requires-3 : goal.store-requires-3
 store-requires-3 c =
@@ -54,11 +39,8 @@ store-requires-3 c =
     let p = c.pass.invariant.1 in
     let v = c.pass.inside.seat.me.0 in
     let t = ap (λ p. p.table) is ∙ (c.requires.table ∙ sym c.self.view_is) in
-    let w = ap (λ z. z.words) t in
-    let z = p.words_is in
     let k = subst (λ (v : ValueView). Has v c.args.m) (sym (ap (λ p. p.knows) is)) c.requires.mine in
     let same = ap (λ (h : Handle). h.slot) k.2 in
-    let low = (p.mine k.0 k.1).1 in
     let n = p.count_is in
     let s = c.store.ensures in
     let e = s.2 k.0.of.slot 0 (omega arith) (omega (arith, n, same)) in
@@ -68,7 +50,7 @@ store-requires-3 c =
     let has = subst (λ m. Member (put k.0.of.slot 1 (get_or c.args.words 1 0) (put k.0.of.slot 0 (get_or c.args.words 0 0) k.0)) m.0.mine) (sym e2) (puts k.0.of.slot 1 (get_or c.args.words 1 0) (put k.0.of.slot 0 (get_or c.args.words 0 0) k.0) (wrote_word k.0.of.slot 0 (get_or c.args.words 0 0) v) (puts k.0.of.slot 0 (get_or c.args.words 0 0) k.0 v k.1)) in
     let n2 = ap (λ m. m.0.claims.count) e2 in
     let here : 1 + 2 * c.pass.inside.count + 3 * c.args.m.slot + 2 ≡ value_at c.store-2.new.seat.me.0.claims.count k.0.of.slot 2 = omega (arith, n, n2, same) in
-    (s2.0 ∙ (s.0 ∙ t), omega (arith, w, z, low, same), writes _ _ _ _ _ c.store-2.new.seat.me.0 c.store-2.new.seat.me.1 (ap (λ m. m.0.claims.live) e2 ∙ p.live) _ 2 _ has (omega arith) here)
+    (s2.0 ∙ (s.0 ∙ t), omega (arith, ap (λ z. z.words) t, p.words_is, (p.mine k.0 k.1).1, same), writes _ _ _ _ _ c.store-2.new.seat.me.0 c.store-2.new.seat.me.1 (ap (λ m. m.0.claims.live) e2 ∙ p.live) _ 2 _ has (omega arith) here)
 
 -- the view after the three stores
 stored : (v : ValueView) (i s a b c : ℕ) (w0 w1 w2 w3 : ValueView) → w1 ≡ wrote_word s 0 a v → w2 ≡ wrote_word s 1 b w1 → w3 ≡ wrote_word s 2 c w2 → ((w : OwnedView) → Member w v.mine → length w.words ≡ 3) → w3 ≡ wrote s (a ∷ b ∷ c ∷ []) v
@@ -84,25 +66,22 @@ returns-clause-wrote c =
     let e = c.store.ensures.2 m 0 (omega arith) (omega (arith, n)) in
     let n' = ap (λ m. m.0.claims.count) e in
     let e2 = c.store-2.ensures.2 m 1 (omega arith) (omega (arith, n, n')) in
-    let n2 = ap (λ m. m.0.claims.count) e2 in
-    let e3 = c.store-3.ensures.2 m 2 (omega arith) (omega (arith, n, n', n2)) in
+    let e3 = c.store-3.ensures.2 m 2 (omega arith) (omega (arith, n, n', ap (λ m. m.0.claims.count) e2)) in
     let done = stored v 0 m _ _ _ v c.store.new.seat.me.0 c.store-2.new.seat.me.0 c.store-3.new.seat.me.0 (ap (λ m. m.0) e) (ap (λ m. m.0) e2) (ap (λ m. m.0) e3) (λ w q. (p.mine w q).0) in
     done ∙ ap (wrote m (get_or c.args.words 0 0 ∷ get_or c.args.words 1 0 ∷ get_or c.args.words 2 0 ∷ [])) (ap (λ p. p.knows) is)
 
 pub invariant_of-pass : goal.invariant_of-pass
 invariant_of-pass c =
     let p = c.pass.invariant.1 in
-    let v = c.pass.inside.seat.me.0 in
     let n = p.count_is in
     let m = c.args.m.slot in
     let e = c.store.ensures.2 m 0 (omega arith) (omega (arith, n)) in
     let n' = ap (λ m. m.0.claims.count) e in
     let e2 = c.store-2.ensures.2 m 1 (omega arith) (omega (arith, n, n')) in
-    let n2 = ap (λ m. m.0.claims.count) e2 in
-    let e3 = c.store-3.ensures.2 m 2 (omega arith) (omega (arith, n, n', n2)) in
+    let e3 = c.store-3.ensures.2 m 2 (omega arith) (omega (arith, n, n', ap (λ m. m.0.claims.count) e2)) in
     let table = c.store-3.ensures.0 ∙ (c.store-2.ensures.0 ∙ c.store.ensures.0) in
     let view = ap (λ m. m.0) e3 ∙ (ap (λ m. wrote_word c.args.m.slot 2 (get_or c.args.words 2 0) m.0) e2 ∙ ap (λ m. wrote_word c.args.m.slot 2 (get_or c.args.words 2 0) (wrote_word c.args.m.slot 1 (get_or c.args.words 1 0) m.0)) e) in (
       ap (λ m. m.1) e3 ∙ (ap (λ m. m.1) e2 ∙ (ap (λ m. m.1) e ∙ c.pass.invariant.0)),
       subst (λ (x : ℕ × ValueView). Carries c.pass.inside.fixed c.pass.inside.count c.pass.inside.head c.pass.inside.room x.0 x.1) (λ j. (ap (λ z. z.words) (sym table) j, sym view j))
-          (carries_word _ _ _ _ _ _ (carries_word _ _ _ _ _ _ (carries_word _ _ _ _ _ v p m 0 (get_or c.args.words 0 0)) m 1 (get_or c.args.words 1 0)) m 2 (get_or c.args.words 2 0)),
+          (carries_word _ _ _ _ _ _ (carries_word _ _ _ _ _ _ (carries_word _ _ _ _ _ c.pass.inside.seat.me.0 p m 0 (get_or c.args.words 0 0)) m 1 (get_or c.args.words 1 0)) m 2 (get_or c.args.words 2 0)),
     )

@@ -1,0 +1,37 @@
+-- What the proofs of this crate speak of: lists, tests and sums, handles and claims, and the words of its specs.
+pub use Rattle.atomic_table.proofs.Lists.{at_last, at_longer, at_map, set_again, set_else, set_here}
+pub use Rattle.atomic_table.specs.Table.{Allows, State, Step, keeps, step}
+pub use Rattle.std.proofs.lemmas.Bool.{cases_Bool, cases_eq, cases_lt, eq-eqb, eqb-true, le-ltb, lt-ltb, ltb-true, ne_eqb}
+pub use Rattle.std.proofs.lemmas.List.{length-map, map-append, map-set, set-get_or}
+pub use Rattle.std.proofs.lemmas.List.Sums.{sum_by-append, sum_by-cons, sum_by_push}
+pub use Rattle.std.specs.Prelude.{IfErr, IfOk, IfSome, filter, not, slice_index, sum_by, ◌&&◌, ◌==◌}
+pub use lib.ListN.{get_elem?}
+pub use mathlib.Core.Option.{none, some, some-injective, some-ne-none}
+pub use Rattle.psac_ops.specs.declared.plain.Handle.{Handle}
+pub use Rattle.psac_slots.proofs.Acts.{sole_parts, tells}
+pub use Rattle.psac_slots.proofs.Carrying.{accounted_returned, has_room}
+pub use Rattle.psac_slots.proofs.Dividing.{Strangers, alone_cases, divides, none_there, on_left, on_right, shared_same, unites}
+pub use Rattle.psac_slots.proofs.Pairs.{filter_member, map_member, member_left, member_right, one_after}
+pub use Rattle.psac_slots.proofs.Removed.{at_most_once, claimed_entry, length-fresh, member_times, removed_else, removed_gone}
+pub use Rattle.psac_slots.proofs.Rewinds.{gone_is, rest_is}
+pub use Rattle.psac_slots.proofs.Sums.{all_set, sum_at, sum_le, sum_none, sum_set, sum_two}
+pub use Rattle.psac_slots.proofs.Turns.{stem_push}
+pub use Rattle.psac_slots.specs.Branches.{stem}
+pub use Rattle.psac_slots.specs.Claiming.{Accounted, IsSole, counted, entry, place, turned}
+pub use Rattle.psac_slots.specs.Divided.{Divided, Own, Rights, above, comes_back, goes, no_rights, stays, united}
+pub use Rattle.psac_slots.specs.Handles.{Member, fresh, removed, slot_times, word_of}
+pub use Rattle.psac_slots.specs.declared.full.Full.{Full}
+pub use Rattle.psac_slots.specs.declared.view.ClaimView.{ClaimView}
+pub use Rattle.psac_readers.specs.Chained.{Each, Follows, Knows, Placed, Readable, Seen, Staged, Tells, alive, claims_of, dead_at, deads, head_at, in_set, is_dead, is_live, labelled, linked, mods_of, named, next_at, node_at, rights_of, times, ways}
+pub use Rattle.psac_readers.specs.Passes.{Carries, OnWalk, Placing, Walks, found, from_word, has_word, or_empty}
+pub use Rattle.psac_readers.specs.Promised.{Promised}
+pub use Rattle.psac_readers.specs.Steps.{Began, Came, Drew, Entered, Fine, Freed, Has, Holds, IsSet, Left, Loaded, Noded, Regained, Revived, Rewound, Seat, Swapped, Unlinked, behind, came, chain_of, die, drew, dying, entered, first_view, first_walk, first_words, forget, freed, front, is_settled, joined, known_without, learn, learned, leaving, led_from, left, left_of, lose, new_link, next_live, node_in, noded, now_shared, on_head, other_link, regained, revive, revived, reviving, rewound, right_link, right_of, set_of, settled, spent, swapped, swept, swept_one, take_off, unknown, unlinked, way, without, zeros}
+pub use Rattle.psac_readers.specs.Swept.{AllGiven, Going, TakenOff, remaining}
+pub use Rattle.psac_readers.specs.Walked.{Answers, Walked, live_in}
+pub use Rattle.psac_readers.specs.declared.readers.Link.{Link}
+pub use Rattle.psac_readers.specs.declared.view.LinkView.{LinkView}
+pub use Rattle.psac_readers.specs.declared.view.ReadersView.{ReadersView}
+pub use Rattle.psac_readers.specs.declared.view.SharedView.{SharedView}
+pub use Rattle.psac_readers.specs.declared.view.Stage.{Stage}
+pub use Rattle.psac_readers.specs.declared.view.Stage.TheVariants.{Claimed, Dead, In, UnderWay}
+pub use Rattle.psac_readers.specs.declared.view.WalkView.{WalkView}
