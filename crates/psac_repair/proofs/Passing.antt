@@ -1,5 +1,5 @@
 -- What stands of a pass's nodes and marks where others were gone through.
-use Rattle.std.proofs.Common.{◌≡◌, ◌≢◌, ◌⊎◌, ℕ, ◌<◌, List, [], ◌++◌, Option, Some, refl, ap, sym, ◌∙◌, subst, inl, inr, ⊎_elim, arith}
+use Rattle.std.proofs.Common.{◌∷◌, ◌≡◌, ◌≢◌, ◌⊎◌, ℕ, ◌<◌, List, [], ◌++◌, Option, Some, refl, ap, sym, ◌∙◌, subst, inl, inr, ⊎_elim, arith}
 use Rattle.psac_ops.specs.declared.plain.Handle.{Handle}
 use Rattle.psac_slots.specs.Handles.{Member}
 use Rattle.psac_slots.specs.Claiming.{times}
@@ -9,11 +9,12 @@ use Rattle.psac_marks.specs.declared.view.OwnView.{OwnView}
 use Rattle.psac_marks.specs.declared.view.SharedView.{SharedView}
 use Rattle.psac_marks.specs.declared.view.MarksView.{MarksView}
 use Rattle.psac_marks.specs.Marked.{Place, places, own_place, shared_place, Has}
-use Rattle.psac_marks.specs.Steps.{Lacks, cleared}
+use Rattle.psac_marks.specs.Steps.{Lacks, cleared, dropping}
 use Rattle.psac_marks.specs.Passes.{IsKept, slot_of}
 use Rattle.psac_marks.proofs.Parts.{place_own, place_shared, place_cases, times_else}
 use Rattle.psac_marks.proofs.Counted.{times_both, times_member, times_found}
 use Rattle.psac_record.specs.Kept.{Kept, E, A, W, S, P, R}
+use Rattle.psac_repair.specs.Taken.{nodes_up}
 use Rattle.psac_repair.specs.Marks.{Sits, Nodes}
 use Rattle.psac_repair.specs.Planted.{slots, tops, Apart, Children, Families, NoneMarked, IsMade, Passed}
 
@@ -196,6 +197,56 @@ passed_cleared m us inside x i =
             | inr a ↦ inr (let t = times_else z x m.busy (else_one z out) in omega (arith, t, a))
           ];
     }
+
+-- nodes inside were dropped
+pub passed_dropping : (m : MarksView) (us inside xs : List ℕ) → ((x : ℕ) → Member x xs → Member x inside) → Passed m (dropping xs m) us inside
+passed_dropping m us inside xs into =
+    record {
+      made = [];
+      gone = xs;
+      raised = [];
+      branch = refl;
+      shared = refl;
+      keeps = λ o i. i;
+      own = λ o i. inl i;
+      has = λ o i. absurd i;
+      new = λ o i. absurd i;
+      below = λ o p i. absurd i;
+      dropped = λ x. times_both x m.dropped xs;
+      gone_is = into;
+      marked = λ x out. omega arith;
+      raised_is = λ x i. absurd i;
+      busy = λ x out b. b;
+    }
+
+pub up_in : (k : Kept) (x : ℕ) → Member x (nodes_up k) → Member x (slots k)
+up_in E x i = i
+up_in (A m r) x i = up_in r x i
+up_in (W m v r) x i = up_in r x i
+up_in (S n t r) x i =
+    ⊎_elim
+    (λ (a : Member x (nodes_up t ++ nodes_up r)). inr (⊎_elim
+    (λ (b : Member x (nodes_up t)). member_left x (slots t) (slots r) (up_in t x b))
+    (λ (b : Member x (nodes_up r)). member_right x (slots t) (slots r) (up_in r x b))
+    (member_cases x (nodes_up t) (nodes_up r) a)))
+    (λ (a : Member x (n.slot ∷ [])). elim a [ inl e ↦ inl e | inr j ↦ absurd j ])
+    (member_cases x (nodes_up t ++ nodes_up r) (n.slot ∷ []) i)
+up_in (P n t r) x i =
+    ⊎_elim
+    (λ (a : Member x (nodes_up t ++ nodes_up r)). inr (⊎_elim
+    (λ (b : Member x (nodes_up t)). member_left x (slots t) (slots r) (up_in t x b))
+    (λ (b : Member x (nodes_up r)). member_right x (slots t) (slots r) (up_in r x b))
+    (member_cases x (nodes_up t) (nodes_up r) a)))
+    (λ (a : Member x (n.slot ∷ [])). elim a [ inl e ↦ inl e | inr j ↦ absurd j ])
+    (member_cases x (nodes_up t ++ nodes_up r) (n.slot ∷ []) i)
+up_in (R b t) x i =
+    ⊎_elim
+    (λ (a : Member x (nodes_up t)). inr (up_in t x a))
+    (λ (a : Member x (b.node.slot ∷ [])). elim a [ inl e ↦ inl e | inr j ↦ absurd j ])
+    (member_cases x (nodes_up t) (b.node.slot ∷ []) i)
+
+pub passed_off : (m n : MarksView) (k : Kept) → n ≡ dropping (nodes_up k) m → (us : List ℕ) → Passed m n us (slots k)
+passed_off m n k e us = subst (λ z. Passed m z us (slots k)) (sym e) (passed_dropping m us (slots k) (nodes_up k) (up_in k))
 
 -- one part, and then another
 pub passed_then : (m q n : MarksView) (us one two inside first second : List ℕ) → Passed m q one first → Passed q n two second → ((x : ℕ) → Member x first → Member x inside) → ((x : ℕ) → Member x second → Member x inside) → ((x : ℕ) → Member x one → Member x us ⊎ Member x inside) → ((x : ℕ) → Member x two → Member x us ⊎ Member x inside) → Passed m n us inside

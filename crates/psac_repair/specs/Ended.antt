@@ -3,19 +3,12 @@ use Rattle.std.specs.Prelude.{ℕ, Bool, true, false}
 use Rattle.psac_ops.specs.declared.plain.Handle.{Handle}
 use Rattle.psac_model.specs.declared.ends.FaultKind.{FaultKind}
 use Rattle.psac_traced.specs.Rec.{Rec, P}
-use Rattle.psac_trace.specs.declared.halt.Halt.{Halt}
-use Rattle.psac_trace.specs.declared.halt.Halt.TheVariants as halt
 
 -- with a record, at a fault, or for want of memory or of slots
 pub data Ended : Type 0 where
   Good : (r : Rec Handle) → Ended
   Fault : (kind : FaultKind) (line : ℕ) → Ended
   Other : Ended
-
-abbrev pub halted : Halt → Ended
-halted (halt.Fault kind line) = Fault kind line
-halted (halt.Full which at) = Other
-halted halt.NoMemory = Other
 
 abbrev pub is_other : Ended → Bool
 is_other Other = true

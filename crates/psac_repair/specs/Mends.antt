@@ -19,7 +19,7 @@ use Rattle.psac_trace.specs.Rights.{Heap, held, In, Within, Wider, Sees, Target,
 use Rattle.psac_repair.specs.Ended.{Ended, Good, Fault, Other, then_ended}
 use Rattle.psac_repair.specs.Wanted.{NewMade}
 use Rattle.psac_repair.specs.Scope.{Fills}
-use Rattle.psac_repair.specs.Stood.{Stood, Owned}
+use Rattle.psac_repair.specs.Stood.{Stood}
 
 -- on each heap that has the base, the new record comes of the old one; nothing of the base is written
 pub record Mends (w : Setting Handle) (funcs : List Func) (Q : List Stmt → Type 0) (base : Heap) (old new : Rec Handle) (end : End) : Type 0 where
@@ -68,8 +68,3 @@ module _ (w : Setting Handle) (funcs : List Func) (Q : List Stmt → Type 0) whe
   abbrev pub TellsPart : Rec Handle → Rec Handle → ValueView → ValueView → Ended → Type 0
   TellsPart part rest v u e =
       (room : ℕ) (body : List Stmt) (env : Env Handle) (heap base : Heap) (st end : Standing) → Stood w funcs Q v (S part rest) room body env heap base st end → PartEnd part rest st end.unwritten env v u base e
-
--- the pass has what the rest made and wrote still, where a part before it is done
-abbrev pub OwnedAfter : ValueView → Rec Handle → Ended → Type 0
-OwnedAfter u rest (Good new) = Owned u rest
-OwnedAfter u rest e = Unit {0}

@@ -1,10 +1,11 @@
 //! Taking a subtree off: its links are left, and its nodes are detached, children first.
-ghost use Rattle.std.specs.Prelude.{◌≡◌, ◌++◌, [], map, Option};
+ghost use Rattle.std.specs.Prelude.{◌≡◌, ◌++◌, [], map, Option, ℕ, List};
 ghost use Rattle.psac_ops.specs.declared.plain.Handle.{Handle};
 ghost use Rattle.psac_marks.specs.Steps.{dropping};
 ghost use Rattle.psac_record.specs.Kept.{links_of};
 ghost use Rattle.psac_record.specs.Shown.{kept_of};
 ghost use Rattle.psac_repair.specs.Marks.{Nodes};
+ghost use Rattle.psac_repair.specs.Planted.{slots, Passed};
 ghost use Rattle.psac_repair.specs.Linked.{LinksOnce, Linked, Relinked};
 ghost use Rattle.psac_repair.specs.Taken.{MayLeave, all_left, OwnsAll, nodes_up, indexes};
 
@@ -102,6 +103,7 @@ pub fn detach_nodes(marks: &Marks, pass: &mut MarksPass, tree: &Record)
     requires nodes { (above : Option Handle) × Nodes pass.old.knows above (kept_of tree.now) }
     ensures table { pass.new.table ≡ pass.old.table }
     ensures detached { pass.new.knows ≡ dropping (nodes_up (kept_of tree.now)) pass.old.knows }
+    ensures passed { (us : List ℕ) → Passed pass.old.knows pass.new.knows us (slots (kept_of tree.now)) }
 {
     detach_each(marks, pass, tree);
 }
