@@ -5,3 +5,4 @@ pub mod Asking
 pub mod Running
 pub mod Grown
 pub mod Fit
+pub mod Looks

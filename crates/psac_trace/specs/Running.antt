@@ -30,8 +30,10 @@ use Rattle.psac_trace.specs.declared.halt.Halt.{Halt}
 use Rattle.psac_trace.specs.declared.halt.Halt.TheVariants as halt
 use Rattle.psac_trace.specs.Fit.{Fit, ParentKept}
 use Rattle.psac_trace.specs.Grown.{Made, made_below, count, as_own, Moves, Cause, IsFull}
+use Rattle.psac_trace.specs.Asking.{looks_for}
+use Rattle.psac_trace.specs.Looks.{Looks}
 use Rattle.psac_trace.specs.Rights.{Heap, held, In, Within, Wider, Named, Sees, Target, Tidy, Ready, Moved}
-use Rattle.psac_trace.specs.Told.{Ended, Good, Fault, Other, Told, Needs, Tells, AreChecked, then_ended, bared, Follows}
+use Rattle.psac_trace.specs.Told.{Ended, Good, Fault, Other, what, Told, Needs, Tells, AreChecked, then_ended, bared, Follows}
 
 -- where a call ends with a record or a fault, no index was drawn past the room
 abbrev pub RoomAfter : Pass → Ended Kept → Type 0
@@ -72,6 +74,7 @@ pub record Leaves (w : Setting Handle) (deep : Tracing Handle) (first : Cuts Han
   pub all : AllMade (made_below par) q made e
   pub room : RoomAfter q e
   pub full : FullBy p q e
+  pub looks : Looks 0 p.values.knows q.values.knows (what e)
   pub tells : Tells w deep first body env p.values.knows q.values.knows (bared e)
 
 -- an inner body begins as it needs, and writes the destinations that the statement is to write
@@ -132,6 +135,8 @@ pub record LeavesAct (w : Setting Handle) (level : ℕ) (deep : Tracing Handle) 
   pub all : AllMade (made_below par) q made e
   pub room : RoomAfter q e
   pub full : FullBy p q e
+  -- its reads were looked at before
+  pub looks : Looks (looks_for a) p.values.knows q.values.knows (what e)
   pub tells : TellsAct w level deep first a rest env p.values.knows q.values.knows (bared e)
 
 -- behind a compound statement, whose node this is and which ended so, the rest begins where that is done
@@ -211,4 +216,5 @@ pub record LeavesBoth (w : Setting Handle) (level : ℕ) (deep : Tracing Handle)
   pub all : AllMade (made_below par) q made e
   pub room : RoomAfter q e
   pub full : FullBy p q e
+  pub looks : Looks 0 p.values.knows q.values.knows (what e)
   pub tells : TellsBoth w level deep first ls rs rest env p.values.knows q.values.knows (bared e)

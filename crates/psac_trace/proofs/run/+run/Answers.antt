@@ -71,7 +71,7 @@ act_on-returns-in-Err g n c =
     let par = c.args.parent in
     let p = c.args.pass in
     let a = action_view env c.args.action in
-    (E, leaves_unbound w funcs room deep first none short t a rest env par p c.requires)
+    (E, leaves_unbound w funcs room deep first none short t a rest env par p c.in-Bind.name (plain_value c.in-Bind.value) (ap (action_view env) c.in-Bind.is) c.requires)
 
 pub act_on-run_block-r-requires-after_bounds : goal.act_on-run_block-r-requires-after_bounds
 act_on-run_block-r-requires-after_bounds g n c κs within =
@@ -902,7 +902,7 @@ run_block-returns-in-Ok g n c =
     let next : room - 1 ≡ levels - (c.args.level + 1) = omega arith in
     let e = ended_of l.0 c.act_on.result.0 in
     let a = action_view env c.in-Ok.action in
-    (l.0, leaves_act_on w funcs t env par p _ c.act_on.result.1 e room (levels - (c.args.level + 1)) body c.s-item.result _ a l.1 (sym next) is c.requires (record { table = c.asked.ensures.table; readers = refl; marks = refl }) c.asked.ensures.looked c.in-Ok.ensures.asked low)
+    (l.0, leaves_act_on w funcs t env par p _ c.act_on.result.1 e room (levels - (c.args.level + 1)) body c.s-item.result _ a l.1 (sym next) is c.requires (record { table = c.asked.ensures.table; readers = refl; marks = refl }) c.asked.ensures.looked c.in-Ok.ensures.looks c.in-Ok.ensures.asked low)
 
 pub run_block-returns-in-Err : goal.run_block-returns-in-Err
 run_block-returns-in-Err g n c =
@@ -916,7 +916,7 @@ run_block-returns-in-Err g n c =
     let body = c.args.body.now in
     let is = whole_is w funcs t env par p body c.s-item.result c.in-len1-up.len_at_least c.s-item.is in
     let low : 0 < room = omega (arith, c.if-level-ge300.false) in
-    (E, leaves_stop w funcs t env par p body c.s-item.result _ is c.requires _ (record { table = c.asked.ensures.table; readers = refl; marks = refl }) c.asked.ensures.looked room c.in-Err.halt c.line-in-Err.result (halted E c.stopped.result) low c.line-in-Err.ensures c.in-Err.ensures.asked c.stopped.ensures)
+    (E, leaves_stop w funcs t env par p body c.s-item.result _ is c.requires _ (record { table = c.asked.ensures.table; readers = refl; marks = refl }) c.asked.ensures.looked room c.in-Err.halt c.line-in-Err.result (halted E c.stopped.result) c.in-Err.ensures.unlooked low c.line-in-Err.ensures c.in-Err.ensures.asked c.stopped.ensures)
 
 pub go_on-returns-in-Ok : goal.go_on-returns-in-Ok
 go_on-returns-in-Ok g n c =
