@@ -26,6 +26,7 @@ use Rattle.psac_record.specs.Kept.{Kept, E}
 use Rattle.psac_trace.specs.Grown.{MoreClaims, nothing, count, claims_in}
 use Rattle.psac_trace.specs.Told.{Ended, Other}
 use Rattle.psac_trace.specs.Running.{Begins, Leaves}
+use Rattle.psac_trace.proofs.Looking.{looks_none}
 use Rattle.psac_engine.specs.Tracing.{main_setting, main_places, MainBegins, MainLeaves}
 
 module _ (g : Grid) (texts : List TextId) (funcs : List Func) (main : Func) (t : Tables) (p : Pass) (s : Setting Handle) (body : List Stmt) (env : Env Handle) (first : ℕ) (dests : List ℕ) (ground : s ≡ setting_over g texts (length dests)) (outs : dests ≡ main.dests) (whole : body ≡ main.body) (bound : env ≡ output_env first dests []) (at : first ≡ first_output g) where
@@ -97,6 +98,7 @@ made_nothing g texts funcs main t p b =
       room = tt;
       full = tt;
       raises = tt;
+      looks = looks_none p.values.knows p.values.knows E refl refl;
       tells = λ base st end m r. (
         subst (CutOn same_handle (cut_short (main_setting g texts main) funcs levels) main.body (main_places g main) base rec.E) (sym b.room.0) (cut_on_none same_handle (main_setting g texts main) funcs levels main.body (main_places g main) base),
         r.sees,

@@ -1,6 +1,7 @@
 pub mod Results
 pub mod Asked
 pub mod Ordered
+pub mod Sources
 pub mod Bound
 pub mod Heaps
 pub mod Valued
@@ -18,6 +19,7 @@ pub mod Joining
 pub mod Fitting
 pub mod Moving
 pub mod Leaving
+pub mod Looking
 pub mod Passes
 pub mod Reading
 pub mod Leading

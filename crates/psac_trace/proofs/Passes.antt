@@ -39,7 +39,8 @@ use Rattle.psac_plain.specs.Slots.{Halts}
 use Rattle.psac_trace.specs.declared.halt.Halt.{Halt}
 use Rattle.psac_trace.specs.declared.halt.Halt.TheVariants as halt
 use Rattle.psac_trace.specs.Rights.{Heap, Sees, Tidy, Kept as Stays}
-use Rattle.psac_trace.specs.Asking.{Readable, Looked}
+use Rattle.psac_trace.specs.Asking.{Readable, Looked, looks_for}
+use Rattle.psac_trace.specs.Looks.{Looks}
 use Rattle.psac_trace.specs.Told.{Ended, Good, Fault, Other, Needs, Tells, ended_of, halted, both_ended, then_ended, bared, Follows, is_other, stop_ended, what}
 use Rattle.psac_trace.specs.Divided.{neither, writes_slot, sets_shared}
 use Rattle.psac_trace.specs.Fit.{ParentKept, both_have}
@@ -85,6 +86,7 @@ use Rattle.psac_cut.proofs.Cutting.{StartsEmpty, Shortens, act_short}
 use Rattle.psac_cut.proofs.Based.{before, vain_new, at_new, at_body, at_block, bare_sides, cut_on_none}
 use Rattle.psac_trace.proofs.Asked.{sees_looked}
 use Rattle.psac_trace.proofs.Leaving.{Does, does_then, bared_then, bared_both, follows_bared, other_bared, room_over, room_follows, full_follows, full_before, most_is, NoMore, most_front, what_bared, what_then, all_front, all_follows, inside, step_made, step_end, sides_made, side_made, block_made, all_both, room_both, full_both, room_from, room_then}
+use Rattle.psac_trace.proofs.Looking.{same_what, what_both, looks_none, looks_from, looks_follow, looks_made, looks_wrote, looks_end, looks_left, looks_sides, looks_joined, looks_block, looks_whole, looks_after}
 use Rattle.psac_trace.proofs.Views.{claimed_sees, sees_same, kept_then, three_is}
 use Rattle.psac_trace.proofs.Forks.{left_tidy, right_tidy}
 use Rattle.psac_trace.proofs.Tells.{told_follows, tells_end, tells_deep, needs_bind, tells_bind, needs_make, tells_make, may_write, needs_put, tells_put, needs_body, needs_body_on, tells_body_on, tells_body_stop, tells_body_cut, needs_block, needs_block_on, tells_block_on, tells_block_stop, tells_block_first, needs_par_on, tells_par_on, tells_par_stop, tells_par_cut, tells_left_out, both_begun, Whole, needs_left, needs_right, tells_forked, needs_first, needs_second, tells_second, both_follows}
@@ -156,13 +158,22 @@ halt_tells_act w room deep first a rest env t p q begun k (halt.Fault _ _) o c x
 halt_tells_act w room deep first a rest env t p q begun k (halt.Full which at) o c x = begun_tells w room deep first a rest env p.values.knows q.values.knows (bare k) (Some (record { which = which; index = at.index; room = at.room })) o.0 x.same c
 halt_tells_act w room deep first a rest env t p q begun k halt.NoMemory o c x = begun_tells w room deep first a rest env p.values.knows q.values.knows (bare k) None o.0 x.same c
 
-module _ (w : Setting Handle) (funcs : List Func) (room : ℕ) (deep : Tracing Handle) (first : Cuts Handle) (none : StartsEmpty first) (short : Shortens deep first) (looks : HoldsHere w funcs deep) (olds : List Handle) (t : Tables) (a : Action Handle) (rest : List Stmt) (env : Env Handle) (par : Option Handle) (p : Pass) where
-  act_of : (q : Pass) (e : Ended Kept) → Does (made_below par) t p q e → RaisesBy olds p q e → TellsAct w room deep first a rest env p.values.knows q.values.knows (bared e) → LeavesAct w room deep first olds t a rest env par p q e
-  act_of q e d r h = record { made = d.made; moves = d.moves; all = d.all; room = d.room; full = d.full; raises = r; tells = h }
+-- and no look came
+halt_looks : (before : ℕ) (t : Tables) (p q : Pass) (begun : Made) (k : Kept) (h : Halt) → HaltsFor t p q begun h → Looks before p.values.knows p.values.knows k → Looks before p.values.knows q.values.knows (what (halted k h))
+halt_looks before t p q begun k (halt.Fault _ _) x l = absurd x
+halt_looks before t p q begun k (halt.Full which at) x l = subst (λ z. Looks before p.values.knows z k) (sym x.same) l
+halt_looks before t p q begun k halt.NoMemory x l = subst (λ z. Looks before p.values.knows z k) (sym x.same) l
+
+module _ (w : Setting Handle) (funcs : List Func) (room : ℕ) (deep : Tracing Handle) (first : Cuts Handle) (none : StartsEmpty first) (short : Shortens deep first) (holding : HoldsHere w funcs deep) (olds : List Handle) (t : Tables) (a : Action Handle) (rest : List Stmt) (env : Env Handle) (par : Option Handle) (p : Pass) where
+  act_of : (q : Pass) (e : Ended Kept) → Does (made_below par) t p q e → RaisesBy olds p q e → Looks (looks_for a) p.values.knows q.values.knows (what e) → TellsAct w room deep first a rest env p.values.knows q.values.knows (bared e) → LeavesAct w room deep first olds t a rest env par p q e
+  act_of q e d r l h = record { made = d.made; moves = d.moves; all = d.all; room = d.room; full = d.full; raises = r; looks = l; tells = h }
+
+  none_looked : (q : Pass) (k : Kept) → looks_for a ≡ 0 → Looks 0 p.values.knows q.values.knows k → Looks (looks_for a) p.values.knows q.values.knows k
+  none_looked q k is = subst (λ n. Looks n p.values.knows q.values.knows k) (sym is)
 
   -- want of memory, before anything was done
-  pub leaves_unbound : BeginsAct w funcs olds t a rest env par p → LeavesAct w room deep first olds t a rest env par p p (Other E None)
-  leaves_unbound b =
+  pub leaves_unbound : (x : ℕ) (y : Value Handle) → a ≡ Bind x y → BeginsAct w funcs olds t a rest env par p → LeavesAct w room deep first olds t a rest env par p p (Other E None)
+  leaves_unbound x y is b =
       record {
         made = nothing;
         moves = moves_none t p b.of b.tidy b.fit;
@@ -170,6 +181,7 @@ module _ (w : Setting Handle) (funcs : List Func) (room : ℕ) (deep : Tracing H
         room = tt;
         full = tt;
         raises = tt;
+        looks = none_looked p E (ap looks_for is) (looks_none p.values.knows p.values.knows E refl refl);
         tells = begun_tells w room deep first a rest env p.values.knows p.values.knows rec.E None b.room.0 refl (λ base. before same_handle room deep first rest env base none a);
       }
 
@@ -197,6 +209,7 @@ module _ (w : Setting Handle) (funcs : List Func) (room : ℕ) (deep : Tracing H
           room = l.room;
           full = l.full;
           raises = l.raises;
+          looks = none_looked q (what e) (ap looks_for is) l.looks;
           tells = subst (λ z. TellsAct w room deep first z rest env p.values.knows q.values.knows (bared e)) (sym is) (tells_bind w room deep first rest env p.values.knows x y q.values.knows (bared e) (subst (λ z. Tells w deep first rest z p.values.knows q.values.knows (bared e)) env_is l.tells));
         }
 
@@ -211,6 +224,9 @@ module _ (w : Setting Handle) (funcs : List Func) (room : ℕ) (deep : Tracing H
     claim_room : HasRoom p'
     claim_room = values_room t p p' b.of b.tidy b.fit be b.room o
 
+    claim_looks : p'.values.knows.looks ≡ p.values.knows.looks
+    claim_looks = ap (λ (z : ValueView). z.looks) c.5
+
     pub leaves_unnamed : a ≡ Make d → LeavesAct w room deep first olds t a rest env par p p' (Other (A m E) None)
     leaves_unnamed is =
         record {
@@ -220,6 +236,7 @@ module _ (w : Setting Handle) (funcs : List Func) (room : ℕ) (deep : Tracing H
           room = tt;
           full = tt;
           raises = tt;
+          looks = none_looked p' (A m E) (ap looks_for is) (looks_none p.values.knows p'.values.knows (A m E) claim_looks refl);
           tells = subst (λ z. TellsAct w room deep first z rest env p.values.knows p'.values.knows (Other (rec.A m rec.E) None)) (sym is) (λ base st mid end more r g. (
             subst (CutOn same_handle (cuts room deep first (Make d)) rest env base (rec.A m rec.E)) (sym o) (at_new same_handle room deep first rest env base d m rec.E 0 (record { run = λ heap wi. none rest (bind d (ref m) env) heap })),
             λ n x e. claimed_sees p.values.knows p'.values.knows m c l n x (r.sees n x e),
@@ -252,6 +269,7 @@ module _ (w : Setting Handle) (funcs : List Func) (room : ℕ) (deep : Tracing H
       leaves_make q e f k h =
           act_of q f (does_then (made_below par) (made_below par) (A m) t p p' q one_made e f (λ x. refl) claim_moves (record { made = k.made; moves = k.moves; all = k.all; room = k.room; full = k.full }) h)
           (raises_follows olds p q (then_ended (A m) e) f h (raises_make q k.made k.moves e k.raises))
+          (none_looked q (what f) (ap looks_for is) (looks_follow 0 p.values.knows q.values.knows (A m) e f h (looks_made p.values.knows p'.values.knows q.values.knows m (what e) claim_looks k.looks)))
           (act_then w room deep first short a rest env p.values.knows q (A m) (rec.A m) e f (λ x. refl) k.room h
           (subst (λ z. TellsAct w room deep first z rest env p.values.knows q.values.knows (then_ended (rec.A m) (bared e))) (sym is) (tells_make w room deep first rest env p.values.knows d m p'.values.knows c l q.values.knows (bared e) (subst (λ z. Tells w deep first rest z p'.values.knows q.values.knows (bared e)) env_is k.tells))))
 
@@ -269,6 +287,7 @@ module _ (w : Setting Handle) (funcs : List Func) (room : ℕ) (deep : Tracing H
         moves = moves_vain t p p' b.of b.tidy b.fit be at.index h e;
         all = (refl, (omega (arith, marks_is), omega (arith, readers_is)));
         room = tt;
+        looks = none_looked p' E (ap looks_for is) (looks_none v p'.values.knows E (ap (λ (z : ValueView). z.looks) e) refl);
         full = record { list = list; past = past; drew = subst (λ (z : ValueView). times at.index v.claims.drawn < times at.index z.claims.drawn) (sym e) (drawn_more v.claims at.index) };
         raises = tt;
         tells = subst (λ z. TellsAct w room deep first z rest env v p'.values.knows (Other rec.E (Some why))) (sym is) (λ base st mid end more r g. (
@@ -315,6 +334,10 @@ module _ (w : Setting Handle) (funcs : List Func) (room : ℕ) (deep : Tracing H
         put_moves : Moves t p p' nothing
         put_moves = moves_then t p p1 p' nothing nothing rouse_moves write_moves
 
+        -- the look at the old words, where there was one
+        put_looks : p'.values.knows.looks ≡ p.values.knows.looks + ro.looks.0
+        put_looks = ap (λ (z : ValueView). z.looks) wr ∙ ro.looks.2
+
         abbrev written : Kept
         written = W m x E
 
@@ -360,6 +383,7 @@ module _ (w : Setting Handle) (funcs : List Func) (room : ℕ) (deep : Tracing H
         leaves_put q e f k h =
             act_of q f (does_then (made_below par) (made_below par) (W m x) t p p' q nothing e f (λ z. refl) put_moves (record { made = k.made; moves = k.moves; all = k.all; room = k.room; full = k.full }) h)
             (raises_follows olds p q (then_ended (W m x) e) f h (behind_raises w olds t rest env p p' nothing written put_moves put_behind deep first (W m x) (λ z. refl) q k.made k.moves e k.raises k.tells))
+            (none_looked q (what f) (ap looks_for is) (looks_follow 0 p.values.knows q.values.knows (W m x) e f h (looks_wrote p.values.knows p'.values.knows q.values.knows m x (what e) ro.looks.0 ro.looks.1 put_looks k.looks)))
             (act_then w room deep first short a rest env p.values.knows q (W m x) (rec.W m (plain_value x)) e f (λ z. refl) k.room h
             (subst (λ z. TellsAct w room deep first z rest env p.values.knows q.values.knows (then_ended (rec.W m (plain_value x)) (bared e))) (sym is)
             (tells_put_looked w room deep first rest env p.values.knows p1.values.knows q.values.knows m (plain_value x) (then_ended (rec.W m (plain_value x)) (bared e)) ro.looked
@@ -417,16 +441,17 @@ good_is : (k c : Kept) → (let e : Ended Kept = Good k in e ≡ Good c) → k �
 good_is k c h = ap (λ (e : Ended Kept). what e) h
 
 -- if and call
-module _ (w : Setting Handle) (funcs : List Func) (room : ℕ) (deep : Tracing Handle) (first : Cuts Handle) (none : StartsEmpty first) (short : Shortens deep first) (looks : HoldsHere w funcs deep) (olds : List Handle) (t : Tables) (rest : List Stmt) (env : Env Handle) (par : Option Handle) (p : Pass) where
+module _ (w : Setting Handle) (funcs : List Func) (room : ℕ) (deep : Tracing Handle) (first : Cuts Handle) (none : StartsEmpty first) (short : Shortens deep first) (holding : HoldsHere w funcs deep) (olds : List Handle) (t : Tables) (rest : List Stmt) (env : Env Handle) (par : Option Handle) (p : Pass) where
   abbrev v : ValueView
   v = p.values.knows
 
   module _ (body : List Stmt) (inner : Env Handle) (b : BeginsAct w funcs olds t (Body body inner) rest env par p) where
     pub leaves_no_inner : (q : Pass) (node : Handle) (h : Halt) → HaltsFor t p q (nodes_only ((node, par) ∷ [])) h → LeavesAct w room deep first olds t (Body body inner) rest env par p q (halted (S node E E) h)
     leaves_no_inner q node h x =
-        act_of w funcs room deep first none short looks olds t (Body body inner) rest env par p q (halted (S node E E) h)
+        act_of w funcs room deep first none short holding olds t (Body body inner) rest env par p q (halted (S node E E) h)
         (does_want (made_below par) t p q (S node E E) (nodes_only ((node, par) ∷ [])) h refl refl refl x)
         (halt_raises olds t p q (nodes_only ((node, par) ∷ [])) (S node E E) h x)
+        (halt_looks 0 t p q (nodes_only ((node, par) ∷ [])) (S node E E) h x (looks_none v v (S node E E) refl refl))
         (halt_tells_act w room deep first (Body body inner) rest env t p q (nodes_only ((node, par) ∷ [])) (S node E E) h b.room (λ base. at_body same_handle room deep first rest env base body inner rec.E 0 (record { run = λ heap wi. none body inner heap })) x)
 
     module _ (node : Handle) (p1 : Pass) (op : Opens t p p1 (nodes_only ((node, par) ∷ []))) (kn : Keeps p1.marks.knows node) where
@@ -465,7 +490,7 @@ module _ (w : Setting Handle) (funcs : List Func) (room : ℕ) (deep : Tracing H
             let g = n.goes in
             let told = subst (λ z. Tells w deep first body inner v u.values.knows (bared z)) is inner_told n.base g.names g.end g.meets g.ready in
             let all : l.made ≡ made_below (Some node) k = subst (AllMade (made_below (Some node)) u l.made) is l.all in
-            let holds = subst (λ z. Holds z n.base (bare k)) n.ready.same (looks body inner n.base (bare k) Done (told.0.run n.base (λ m x h. h))) in
+            let holds = subst (λ z. Holds z n.base (bare k)) n.ready.same (holding body inner n.base (bare k) Done (told.0.run n.base (λ m x h. h))) in
             record {
               aged = n.aged;
               base = n.base;
@@ -498,7 +523,7 @@ module _ (w : Setting Handle) (funcs : List Func) (room : ℕ) (deep : Tracing H
             pick (Other k why) r told past = tt
 
         pub leaves_inner : (q : Pass) (o : Ended Kept) → LeavesAfter w deep first olds t node e rest env u q o → LeavesAct w room deep first olds t (Body body inner) rest env par p q o
-        leaves_inner q o h = act_of w funcs room deep first none short looks olds t (Body body inner) rest env par p q o (does_after w funcs deep first olds t rest env par node p u e q o inner_does h) (raises_after w funcs deep first olds t rest env par node p u inner_made inner_moves e q o inner_behind h) (pick e inner_told h)
+        leaves_inner q o h = act_of w funcs room deep first none short holding olds t (Body body inner) rest env par p q o (does_after w funcs deep first olds t rest env par node p u e q o inner_does h) (raises_after w funcs deep first olds t rest env par node p u inner_made inner_moves e q o inner_behind h) (looks_after w deep first olds t node rest env 0 v u q e o (looks_from v p1.values.knows u.values.knows (what e) op.same l.looks) h) (pick e inner_told h)
           where
             pick : (e : Ended Kept) → Tells w deep first body inner v u.values.knows (bared e) → LeavesAfter w deep first olds t node e rest env u q o → TellsAct w room deep first (Body body inner) rest env v q.values.knows (bared o)
             pick (Good k) told h =
@@ -526,11 +551,15 @@ module _ (w : Setting Handle) (funcs : List Func) (room : ℕ) (deep : Tracing H
       begun_block base = subst (λ x. CutOn same_handle (cuts room deep first (Block number reads body inner)) rest env base (rec.S x rec.E) 0) (sym (bare_is E))
           (at_block same_handle room deep first rest env base number reads body inner reads [] rec.E 0 (append-nil reads) (record { run = λ heap wi. none body inner heap }))
 
+      begun_looks : (node : Handle) → Looks (length reads) v v (S node (R r E) E)
+      begun_looks node = looks_end (length reads) v v node (R r E) (looks_block v v r reads E began.reads (looks_none v v E refl refl))
+
       pub leaves_no_block : (q : Pass) (node : Handle) (h : Halt) → HaltsFor t p q (read_made par node r) h → LeavesAct w room deep first olds t (Block number reads body inner) rest env par p q (halted (S node (R r E) E) h)
       leaves_no_block q node h x =
-          act_of w funcs room deep first none short looks olds t (Block number reads body inner) rest env par p q (halted (S node (R r E) E) h)
+          act_of w funcs room deep first none short holding olds t (Block number reads body inner) rest env par p q (halted (S node (R r E) E) h)
           (does_want (made_below par) t p q (S node (R r E) E) (read_made par node r) h refl refl refl x)
           (halt_raises olds t p q (read_made par node r) (S node (R r E) E) h x)
+          (halt_looks (length reads) t p q (read_made par node r) (S node (R r E) E) h x (begun_looks node))
           (halt_tells_act w room deep first (Block number reads body inner) rest env t p q (read_made par node r) (S node (R r E) E) h b.room begun_block x)
 
       -- want of memory for the environment of the block
@@ -543,6 +572,7 @@ module _ (w : Setting Handle) (funcs : List Func) (room : ℕ) (deep : Tracing H
             room = tt;
             full = tt;
             raises = tt;
+            looks = subst (λ z. Looks (length reads) v z (S node (R r E) E)) (sym op.same) (begun_looks node);
             tells = begun_tells w room deep first (Block number reads body inner) rest env v p1.values.knows (rec.S (bare (R r E)) rec.E) None b.room.0 op.same begun_block;
           }
 
@@ -588,7 +618,7 @@ module _ (w : Setting Handle) (funcs : List Func) (room : ℕ) (deep : Tracing H
             let k = whole.0 in
             let told = subst (λ z. Tells w deep first body inner v u.values.knows (bared z)) whole.1 block_told n.base g.names g.end g.meets g.ready in
             let all : l.made ≡ made_below (Some r.node) k = subst (AllMade (made_below (Some r.node)) u l.made) whole.1 l.all in
-            let holds = subst (λ z. Holds z n.base (bare k)) n.ready.same (looks body inner n.base (bare k) Done (told.0.run n.base (λ m x h. h))) in
+            let holds = subst (λ z. Holds z n.base (bare k)) n.ready.same (holding body inner n.base (bare k) Done (told.0.run n.base (λ m x h. h))) in
             let unread : (m : Handle) (x : Plain) → Member m olds → Member (m, x) (puts k) → (s : Stands) → Member s (read_made par node r).links → s.of.slot ≢ m.slot =
             λ m x o i s j. (
             let a = read_linked began n.base n.saw s j in
@@ -663,16 +693,20 @@ module _ (w : Setting Handle) (funcs : List Func) (room : ℕ) (deep : Tracing H
               (subst (λ (z : Pass). TellsAct w room deep first (Block number reads body inner) rest env v z.values.knows (Other (rec.S (bare c) rec.E) None)) (sym h.0)
               (subst (λ x. TellsAct w room deep first (Block number reads body inner) rest env v u.values.knows (Other (rec.S x rec.E) None)) is whole))
 
+          block_looks : Looks (length reads) v u.values.knows (what f)
+          block_looks = looks_follow (length reads) v u.values.knows (R r) e f fo (looks_block v u.values.knows r reads (what e) began.reads (looks_from v p1.values.knows u.values.knows (what e) op.same l.looks))
+
           pub leaves_block : (q : Pass) (o : Ended Kept) → LeavesAfter w deep first olds t node f rest env u q o → LeavesAct w room deep first olds t (Block number reads body inner) rest env par p q o
-          leaves_block q o h = act_of w funcs room deep first none short looks olds t (Block number reads body inner) rest env par p q o (does_after w funcs deep first olds t rest env par node p u f q o block_does h) (raises_after w funcs deep first olds t rest env par node p u all_made block_moves f q o (block_behind began) h) (after_tells q o f fo h)
+          leaves_block q o h = act_of w funcs room deep first none short holding olds t (Block number reads body inner) rest env par p q o (does_after w funcs deep first olds t rest env par node p u f q o block_does h) (raises_after w funcs deep first olds t rest env par node p u all_made block_moves f q o (block_behind began) h) (looks_after w deep first olds t node rest env (length reads) v u q f o block_looks h) (after_tells q o f fo h)
 
   -- par
   module _ (ls rs : List Stmt) (b : BeginsAct w funcs olds t (Sides ls rs) rest env par p) where
     pub leaves_no_par : (q : Pass) (node : Handle) (h : Halt) → HaltsFor t p q (nodes_only ((node, par) ∷ [])) h → LeavesAct w room deep first olds t (Sides ls rs) rest env par p q (halted (S node E E) h)
     leaves_no_par q node h x =
-        act_of w funcs room deep first none short looks olds t (Sides ls rs) rest env par p q (halted (S node E E) h)
+        act_of w funcs room deep first none short holding olds t (Sides ls rs) rest env par p q (halted (S node E E) h)
         (does_want (made_below par) t p q (S node E E) (nodes_only ((node, par) ∷ [])) h refl refl refl x)
         (halt_raises olds t p q (nodes_only ((node, par) ∷ [])) (S node E E) h x)
+        (halt_looks 0 t p q (nodes_only ((node, par) ∷ [])) (S node E E) h x (looks_none v v (S node E E) refl refl))
         (halt_tells_act w room deep first (Sides ls rs) rest env t p q (nodes_only ((node, par) ∷ [])) (S node E E) h b.room (λ base. bare_sides same_handle room deep first rest env base ls rs) x)
 
     module _ (node : Handle) (p1 : Pass) (op : Opens t p p1 (nodes_only ((node, par) ∷ []))) (kn : Keeps p1.marks.knows node) where
@@ -709,7 +743,7 @@ module _ (w : Setting Handle) (funcs : List Func) (room : ℕ) (deep : Tracing H
             let told = subst (λ z. TellsBoth w room deep first ls rs rest env v u.values.knows (bared z)) is par_told n.base n.st n.mid n.end n.meets n.ready g in
             let all : l.made ≡ made_below (Some node) k = subst (AllMade (made_below (Some node)) u l.made) is l.all in
             let runs = told.3.run n.base (λ m x h. h) in
-            let both : Holds w.same n.base (rec.P told.0 told.1) = (looks ls env n.base told.0 Done runs.0, looks rs env (rec.writes told.0 ++ n.base) told.1 Done runs.1) in
+            let both : Holds w.same n.base (rec.P told.0 told.1) = (holding ls env n.base told.0 Done runs.0, holding rs env (rec.writes told.0 ++ n.base) told.1 Done runs.1) in
             let holds = subst (λ z. Holds z n.base (bare k)) n.ready.same (subst (Holds w.same n.base) told.2 both) in
             let within = both_within w room deep first rest env v ls rs n.st n.mid g in
             record {
@@ -745,7 +779,7 @@ module _ (w : Setting Handle) (funcs : List Func) (room : ℕ) (deep : Tracing H
             pick (Other k why) r told past = tt
 
         pub leaves_par : (q : Pass) (o : Ended Kept) → LeavesAfter w deep first olds t node e rest env u q o → LeavesAct w room deep first olds t (Sides ls rs) rest env par p q o
-        leaves_par q o h = act_of w funcs room deep first none short looks olds t (Sides ls rs) rest env par p q o (does_after w funcs deep first olds t rest env par node p u e q o par_does h) (raises_after w funcs deep first olds t rest env par node p u par_made par_moves e q o par_behind h) (pick e par_told h)
+        leaves_par q o h = act_of w funcs room deep first none short holding olds t (Sides ls rs) rest env par p q o (does_after w funcs deep first olds t rest env par node p u e q o par_does h) (raises_after w funcs deep first olds t rest env par node p u par_made par_moves e q o par_behind h) (looks_after w deep first olds t node rest env 0 v u q e o (looks_from v p1.values.knows u.values.knows (what e) op.same l.looks) h) (pick e par_told h)
           where
             pick : (e : Ended Kept) → TellsBoth w room deep first ls rs rest env v u.values.knows (bared e) → LeavesAfter w deep first olds t node e rest env u q o → TellsAct w room deep first (Sides ls rs) rest env v q.values.knows (bared o)
             pick (Good k) told h =
@@ -759,15 +793,16 @@ module _ (w : Setting Handle) (funcs : List Func) (room : ℕ) (deep : Tracing H
                 (subst (λ (z : Pass). TellsAct w room deep first (Sides ls rs) rest env v z.values.knows (Other (rec.S (bare k) rec.E) why)) (sym h.0) (tells_par_cut w room deep first rest env v ls rs u.values.knows (bare k) why told))
 
 -- both sides
-module _ (w : Setting Handle) (funcs : List Func) (room : ℕ) (deep : Tracing Handle) (first : Cuts Handle) (none : StartsEmpty first) (short : Shortens deep first) (looks : HoldsHere w funcs deep) (olds : List Handle) (t : Tables) (ls rs rest : List Stmt) (env : Env Handle) (par : Option Handle) (p : Pass) (b : BeginsAct w funcs olds t (Sides ls rs) rest env par p) where
-  both_of : (q : Pass) (e : Ended Kept) → Does (made_below par) t p q e → RaisesBy olds p q e → TellsBoth w room deep first ls rs rest env p.values.knows q.values.knows (bared e) → LeavesBoth w room deep first olds t ls rs rest env par p q e
-  both_of q e d r h = record { made = d.made; moves = d.moves; all = d.all; room = d.room; full = d.full; raises = r; tells = h }
+module _ (w : Setting Handle) (funcs : List Func) (room : ℕ) (deep : Tracing Handle) (first : Cuts Handle) (none : StartsEmpty first) (short : Shortens deep first) (holding : HoldsHere w funcs deep) (olds : List Handle) (t : Tables) (ls rs rest : List Stmt) (env : Env Handle) (par : Option Handle) (p : Pass) (b : BeginsAct w funcs olds t (Sides ls rs) rest env par p) where
+  both_of : (q : Pass) (e : Ended Kept) → Does (made_below par) t p q e → RaisesBy olds p q e → Looks 0 p.values.knows q.values.knows (what e) → TellsBoth w room deep first ls rs rest env p.values.knows q.values.knows (bared e) → LeavesBoth w room deep first olds t ls rs rest env par p q e
+  both_of q e d r l h = record { made = d.made; moves = d.moves; all = d.all; room = d.room; full = d.full; raises = r; looks = l; tells = h }
 
   pub leaves_no_sides : (q : Pass) (node : Handle) (h : Halt) → HaltsFor t p q (nodes_only ((node, par) ∷ [])) h → LeavesBoth w room deep first olds t ls rs rest env par p q (halted (P node E E) h)
   leaves_no_sides q node h x =
       both_of q (halted (P node E E) h)
       (does_want (made_below par) t p q (P node E E) (nodes_only ((node, par) ∷ [])) h refl refl refl x)
       (halt_raises olds t p q (nodes_only ((node, par) ∷ [])) (P node E E) h x)
+      (halt_looks 0 t p q (nodes_only ((node, par) ∷ [])) (P node E E) h x (looks_none p.values.knows p.values.knows (P node E E) refl refl))
       (halt_tells h x)
     where
       begun : (why : Option Cause) → q.values.knows ≡ p.values.knows → TellsBoth w room deep first ls rs rest env p.values.knows q.values.knows (Other (rec.P rec.E rec.E) why)
@@ -789,8 +824,8 @@ module _ (w : Setting Handle) (funcs : List Func) (room : ℕ) (deep : Tracing H
     tidy_here = op.moves.stays.tidy
 
     -- both sides, that were begun behind the node
-    whole : (j : Pass) (made : Made) (one two o : Ended Kept) → Moves t p1 j made → RaisesBy olds p1 j (both_ended (P node) one two) → AllMade (made_below par) j (followed one_node made) (both_ended (P node) one two) → RoomAfter j (both_ended (P node) one two) → FullBy p1 j (both_ended (P node) one two) → TellsBoth w room deep first ls rs rest env p1.values.knows j.values.knows (both_ended rec.P (bared one) (bared two)) → Follows (both_ended (P node) one two) o → LeavesBoth w room deep first olds t ls rs rest env par p j o
-    whole j made one two o mv ra all ro fu tells fo =
+    whole : (j : Pass) (made : Made) (one two o : Ended Kept) → Moves t p1 j made → RaisesBy olds p1 j (both_ended (P node) one two) → AllMade (made_below par) j (followed one_node made) (both_ended (P node) one two) → RoomAfter j (both_ended (P node) one two) → FullBy p1 j (both_ended (P node) one two) → Looks 0 p1.values.knows j.values.knows (P node (what one) (what two)) → TellsBoth w room deep first ls rs rest env p1.values.knows j.values.knows (both_ended rec.P (bared one) (bared two)) → Follows (both_ended (P node) one two) o → LeavesBoth w room deep first olds t ls rs rest env par p j o
+    whole j made one two o mv ra all ro fu lo tells fo =
         let e = both_ended (P node) one two in
         let told : TellsBoth w room deep first ls rs rest env p1.values.knows j.values.knows (bared e) = subst (TellsBoth w room deep first ls rs rest env p1.values.knows j.values.knows) (sym (bared_both node one two)) tells in
         record {
@@ -800,6 +835,7 @@ module _ (w : Setting Handle) (funcs : List Func) (room : ℕ) (deep : Tracing H
           room = room_follows j e o fo ro;
           full = full_follows p j e o fo (full_before t p p1 j one_node e op.moves fu);
           raises = raises_follows olds p j e o fo (opened e ra);
+          looks = looks_from p.values.knows p1.values.knows j.values.knows (what o) op.same (subst (Looks 0 p1.values.knows j.values.knows) (sym (what_both node one two) ∙ same_what e o fo) lo);
           tells = subst (λ z. TellsBoth w room deep first ls rs rest env z j.values.knows (bared o)) op.same (both_follows w room deep first rest env p1.values.knows ls rs short j.values.knows (bared e) (bared o) (whole_of j e ro) (follows_bared e o fo) told);
         }
       where
@@ -843,6 +879,7 @@ module _ (w : Setting Handle) (funcs : List Func) (room : ℕ) (deep : Tracing H
           room = tt;
           full = full_then t p p1 u one_node (record { which = which; index = at.index; room = at.room }) op.moves l.full;
           raises = tt;
+          looks = looks_from p.values.knows p1.values.knows u.values.knows (P node k E) op.same (looks_left p1.values.knows u.values.knows node k l.looks);
           tells = subst (λ z. TellsBoth w room deep first ls rs rest env z u.values.knows (Other (rec.P (bare k) rec.E) (Some (record { which = which; index = at.index; room = at.room })))) op.same (tells_left_out w room deep first rest env p1.values.knows ls rs tidy_here u.values.knows l.moves.stays none (bare k) (Some (record { which = which; index = at.index; room = at.room })) l.tells);
         }
     leaves_out u k (Err halt.NoMemory) h l =
@@ -853,6 +890,7 @@ module _ (w : Setting Handle) (funcs : List Func) (room : ℕ) (deep : Tracing H
           room = tt;
           full = tt;
           raises = tt;
+          looks = looks_from p.values.knows p1.values.knows u.values.knows (P node k E) op.same (looks_left p1.values.knows u.values.knows node k l.looks);
           tells = subst (λ z. TellsBoth w room deep first ls rs rest env z u.values.knows (Other (rec.P (bare k) rec.E) None)) op.same (tells_left_out w room deep first rest env p1.values.knows ls rs tidy_here u.values.knows l.moves.stays none (bare k) None l.tells);
         }
 
@@ -872,7 +910,7 @@ module _ (w : Setting Handle) (funcs : List Func) (room : ℕ) (deep : Tracing H
           let here : Told deep first ls n.st g.one env v u.values.knows n.base (Good (bare k)) = subst (λ z. Told deep first ls n.st g.one env v u.values.knows n.base (bared z)) is told in
           let e = right_end w room deep first rest env v ls rs n.st n.mid g in
           let all : l.made ≡ made_below (Some node) k = subst (AllMade (made_below (Some node)) u l.made) is l.all in
-          let holds = subst (λ z. Holds z n.base (bare k)) n.ready.same (looks ls env n.base (bare k) Done (here.0.run n.base (λ m x h. h))) in
+          let holds = subst (λ z. Holds z n.base (bare k)) n.ready.same (holding ls env n.base (bare k) Done (here.0.run n.base (λ m x h. h))) in
           record {
             aged = n.aged;
             base = n.base;
@@ -925,6 +963,7 @@ module _ (w : Setting Handle) (funcs : List Func) (room : ℕ) (deep : Tracing H
           (all_both (made_below (Some node)) u j j l.made m.made (P node) (made_below par) one_node (sides_made par node) (λ c. omega arith) one two l.room m.room l.all m.all)
           (room_both j u j (P node) (λ x y. y) one two l.room m.room)
           (full_both p1 j p1 u u j (P node) (λ c f. full_more t p1 u j m.made c m.moves f) (λ c f. full_then t p1 u j l.made c l.moves f) one two l.full m.full)
+          (looks_sides p1.values.knows u.values.knows j.values.knows node (what one) (what two) l.looks m.looks)
           (tells_second w room deep first rest env p1.values.knows ls rs tidy_here u.values.knows l.moves.stays j.values.knows m.moves.stays (bared one) (bared two) (other_bared one ∙ h) l.tells m.tells)
           fo
 
@@ -980,6 +1019,7 @@ module _ (w : Setting Handle) (funcs : List Func) (room : ℕ) (deep : Tracing H
             (all_both (made_below (Some node)) l' k' j ll.made lk.made (P node) (made_below par) one_node (sides_made par node) (λ c. let o = over c in omega (arith, o)) one two ll.room lk.room ll.all lk.all)
             (room_both j l' k' (P node) (λ x y. room_from j (λ c. over c ∙ ap (λ n. n + (claims_in c k').over) (room_over l' x c) ∙ ap (λ n. 0 + n) (room_over k' y c))) one two ll.room lk.room)
             (full_both p1 j l l' k k' (P node) (full_left t p1 l k ls rs env op.moves.fit lv kv lr kr lm km l' k' j ll.made lk.made ll.moves lk.moves ofj tidy_here jv un jr jm unm) (full_right t p1 l k ls rs env op.moves.fit lv kv lr kr lm km l' k' j ll.made lk.made ll.moves lk.moves ofj tidy_here jv un jr jm unm) one two ll.full lk.full)
+            (looks_joined p1.values.knows l.values.knows l'.values.knows k.values.knows k'.values.knows j.values.knows node (what one) (what two) (ap (λ (z : ValueView). z.looks) lv) (ap (λ (z : ValueView). z.looks) kv) (ap (λ (z : ValueView). z.looks) jv) ll.looks lk.looks)
             (tells_forked w room deep first rest env p1.values.knows ls rs tidy_here l'.values.knows k'.values.knows j.values.knows kl kk jv un short (bared one) (bared two) (whole_of l' one ll.room) (whole_of k' two lk.room) (subst (λ z. Tells w deep first ls env z l'.values.knows (bared one)) lv ll.tells) (subst (λ z. Tells w deep first rs env z k'.values.knows (bared two)) kv lk.tells))
             fo
           where
@@ -997,7 +1037,7 @@ module _ (w : Setting Handle) (funcs : List Func) (olds : List Handle) (t : Tabl
   pub leaves_end : (room : ℕ) (body : List Stmt) (k : Kept) → length body < 1 → k ≡ E → Begins w funcs olds t body env par p → Leaves w (traced w funcs room) (cut_short w funcs room) olds t body env par p p (Good k)
   leaves_end room [] k h e b =
       subst (λ z. Leaves w (traced w funcs room) (cut_short w funcs room) olds t [] env par p p (Good z)) (sym e)
-      (record { made = nothing; moves = moves_none t p b.of b.tidy b.fit; all = refl; room = b.room; full = tt; raises = raises_none olds p p refl (λ m us k. k); tells = tells_end w funcs room (cut_short w funcs room) env p.values.knows })
+      (record { made = nothing; moves = moves_none t p b.of b.tidy b.fit; all = refl; room = b.room; full = tt; raises = raises_none olds p p refl (λ m us k. k); looks = looks_none p.values.knows p.values.knows E refl refl; tells = tells_end w funcs room (cut_short w funcs room) env p.values.knows })
   leaves_end room (s ∷ rest) k h e b = absurd (omega arith)
 
   body_splits : (body : List Stmt) (s : Stmt) → 1 ≤ length body → s ≡ get_or body 0 s → s ∷ drop 1 body ≡ body
@@ -1022,6 +1062,7 @@ module _ (w : Setting Handle) (funcs : List Func) (olds : List Handle) (t : Tabl
         room = b.room;
         full = tt;
         raises = tt;
+        looks = looks_none p.values.knows p.values.knows E refl refl;
         tells = subst (λ k. Tells w (traced w funcs k) (cut_short w funcs k) body env p.values.knows p.values.knows (Fault rec.E TooDeep n)) (sym z)
             (subst (λ x. Tells w (traced w funcs 0) (cut_short w funcs 0) x env p.values.knows p.values.knows (Fault rec.E TooDeep n)) is
             (subst (λ x. Tells w (traced w funcs 0) (cut_short w funcs 0) (s ∷ rest) env p.values.knows p.values.knows (Fault rec.E TooDeep x)) (sym l) (tells_deep w funcs (cut_short w funcs 0) s rest env p.values.knows)));
@@ -1041,8 +1082,8 @@ module _ (w : Setting Handle) (funcs : List Func) (olds : List Handle) (t : Tabl
       asked_room : HasRoom p'
       asked_room = values_room t p p' b.of b.tidy b.fit be b.room (ap (λ (z : ValueView). z.claims.over) l.1 ∙ b.room.0)
 
-      leaves_wanting : (room : ℕ) → Leaves w (traced w funcs room) (cut_short w funcs room) olds t body env par p p' (Other E None)
-      leaves_wanting room =
+      leaves_wanting : (room : ℕ) → p'.values.knows.looks ≡ p.values.knows.looks → Leaves w (traced w funcs room) (cut_short w funcs room) olds t body env par p p' (Other E None)
+      leaves_wanting room un =
           record {
             made = nothing;
             moves = asked_moves;
@@ -1050,11 +1091,12 @@ module _ (w : Setting Handle) (funcs : List Func) (olds : List Handle) (t : Tabl
             room = tt;
             full = tt;
             raises = tt;
+            looks = looks_none p.values.knows p'.values.knows E un refl;
             tells = λ base st end m r. (subst (CutOn same_handle (cut_short w funcs room) body env base rec.E) (sym asked_room.0) (cut_on_none same_handle w funcs room body env base), λ n x e. sees_looked p.values.knows p'.values.knows n x l (r.sees n x e));
           }
 
-      leaves_fault : (room : ℕ) (k : FaultKind) (n : ℕ) → 0 < room → n ≡ line_of (out-Stmt s) → ((heap : Heap) → Readable w env p.values.knows heap (out-Stmt s) → action_of (listed w) w funcs env heap (out-Stmt s) ≡ Err k) → Leaves w (traced w funcs room) (cut_short w funcs room) olds t body env par p p' (Fault E k n)
-      leaves_fault room k n h li asked =
+      leaves_fault : (room : ℕ) (k : FaultKind) (n : ℕ) → p'.values.knows.looks ≡ p.values.knows.looks → 0 < room → n ≡ line_of (out-Stmt s) → ((heap : Heap) → Readable w env p.values.knows heap (out-Stmt s) → action_of (listed w) w funcs env heap (out-Stmt s) ≡ Err k) → Leaves w (traced w funcs room) (cut_short w funcs room) olds t body env par p p' (Fault E k n)
+      leaves_fault room k n un h li asked =
           record {
             made = nothing;
             moves = asked_moves;
@@ -1062,14 +1104,15 @@ module _ (w : Setting Handle) (funcs : List Func) (olds : List Handle) (t : Tabl
             room = asked_room;
             full = tt;
             raises = tt;
+            looks = looks_none p.values.knows p'.values.knows E un refl;
             tells = subst (λ z. Tells w (traced w funcs z) (cut_short w funcs z) body env p.values.knows p'.values.knows (Fault rec.E k n)) (suc_less room h)
                 (subst (λ x. Tells w (traced w funcs (suc (room - 1))) (cut_short w funcs (suc (room - 1))) x env p.values.knows p'.values.knows (Fault rec.E k n)) is
                 (subst (λ x. Tells w (traced w funcs (suc (room - 1))) (cut_short w funcs (suc (room - 1))) (s ∷ rest) env p.values.knows p'.values.knows (Fault rec.E k x)) (sym li) (tells_fault w funcs b.checked s rest env p.values.knows p'.values.knows l (room - 1) k asked)));
           }
 
-      pub leaves_stop : (room : ℕ) (h : Stopped) (n : ℕ) (e : Ended Kept) → 0 < room → n ≡ line_of (out-Stmt s) → ((heap : Heap) → Readable w env p.values.knows heap (out-Stmt s) → Halts h (action_of (listed w) w funcs env heap (out-Stmt s))) → e ≡ stop_ended h n → Leaves w (traced w funcs room) (cut_short w funcs room) olds t body env par p p' e
-      leaves_stop room (stop_kind.Fault k) n e h li asked is = subst (Leaves w (traced w funcs room) (cut_short w funcs room) olds t body env par p p') (sym is) (leaves_fault room k n h li asked)
-      leaves_stop room stop_kind.NoMemory n e h li asked is = subst (Leaves w (traced w funcs room) (cut_short w funcs room) olds t body env par p p') (sym is) (leaves_wanting room)
+      pub leaves_stop : (room : ℕ) (h : Stopped) (n : ℕ) (e : Ended Kept) → p'.values.knows.looks ≡ p.values.knows.looks → 0 < room → n ≡ line_of (out-Stmt s) → ((heap : Heap) → Readable w env p.values.knows heap (out-Stmt s) → Halts h (action_of (listed w) w funcs env heap (out-Stmt s))) → e ≡ stop_ended h n → Leaves w (traced w funcs room) (cut_short w funcs room) olds t body env par p p' e
+      leaves_stop room (stop_kind.Fault k) n e un h li asked is = subst (Leaves w (traced w funcs room) (cut_short w funcs room) olds t body env par p p') (sym is) (leaves_fault room k n un h li asked)
+      leaves_stop room stop_kind.NoMemory n e un h li asked is = subst (Leaves w (traced w funcs room) (cut_short w funcs room) olds t body env par p p') (sym is) (leaves_wanting room un)
 
       module _ (a : Action Handle) (asked : (heap : Heap) → Readable w env p.values.knows heap (out-Stmt s) → action_of (listed w) w funcs env heap (out-Stmt s) ≡ Ok a) where
         asked_warns : WarnsAct w olds a rest env p'
@@ -1103,8 +1146,8 @@ module _ (w : Setting Handle) (funcs : List Func) (olds : List Handle) (t : Tabl
               warns = asked_warns;
             }
 
-        pub leaves_act : (room : ℕ) (q : Pass) (e : Ended Kept) → 0 < room → LeavesAct w (room - 1) (traced w funcs (room - 1)) (cut_short w funcs (room - 1)) olds t a rest env par p' q e → Leaves w (traced w funcs room) (cut_short w funcs room) olds t body env par p q e
-        leaves_act room q e h k =
+        pub leaves_act : (room : ℕ) (q : Pass) (e : Ended Kept) → p'.values.knows.looks ≡ p.values.knows.looks + looks_for a → 0 < room → LeavesAct w (room - 1) (traced w funcs (room - 1)) (cut_short w funcs (room - 1)) olds t a rest env par p' q e → Leaves w (traced w funcs room) (cut_short w funcs room) olds t body env par p q e
+        leaves_act room q e saw h k =
             record {
               made = k.made;
               moves = moves_then t p p' q nothing k.made asked_moves k.moves;
@@ -1112,6 +1155,7 @@ module _ (w : Setting Handle) (funcs : List Func) (olds : List Handle) (t : Tabl
               room = k.room;
               full = full_before t p p' q nothing e asked_moves k.full;
               raises = looked_raises e k.raises;
+              looks = looks_whole (looks_for a) p.values.knows p'.values.knows q.values.knows (what e) saw k.looks;
               tells = subst (λ z. Tells w (traced w funcs z) (cut_short w funcs z) body env p.values.knows q.values.knows (bared e)) (suc_less room h)
                   (subst (λ x. Tells w (traced w funcs (suc (room - 1))) (cut_short w funcs (suc (room - 1))) x env p.values.knows q.values.knows (bared e)) is
                   (tells_act w funcs b.checked s rest env p.values.knows p'.values.knows l a asked (room - 1) q.values.knows (bared e) k.tells));
@@ -1123,12 +1167,12 @@ module _ (w : Setting Handle) (funcs : List Func) (olds : List Handle) (t : Tabl
             looked_raises (Other c why) r = tt
 
 -- the same, with what tells the pass in between first
-pub leaves_make_on : (w : Setting Handle) (funcs : List Func) (room : ℕ) (deep : Tracing Handle) (first : Cuts Handle) (none : StartsEmpty first) (short : Shortens deep first) (looks : HoldsHere w funcs deep) (olds : List Handle) (t : Tables) (a : Action Handle) (rest : List Stmt) (env : Env Handle) (par : Option Handle) (p p' q : Pass) (e f : Ended Kept) (d : ℕ) (m : Handle) (inner : Env Handle) → Leaves w deep first olds t rest inner par p' q e → BeginsAct w funcs olds t a rest env par p → BesideValues p p' → Claims p.values.knows m p'.values.knows → Lacks p.values.knows m.slot → p'.values.knows.claims.over ≡ 0 → a ≡ Make d → inner ≡ bind d (ref m) env → Follows (then_ended (A m) e) f → LeavesAct w room deep first olds t a rest env par p q f
-leaves_make_on w funcs room deep first none short looks olds t a rest env par p p' q e f d m inner k b be c l o is env_is h = leaves_make w funcs room deep first none short looks olds t a rest env par p d m p' b be c l o inner is env_is q e f k h
+pub leaves_make_on : (w : Setting Handle) (funcs : List Func) (room : ℕ) (deep : Tracing Handle) (first : Cuts Handle) (none : StartsEmpty first) (short : Shortens deep first) (holding : HoldsHere w funcs deep) (olds : List Handle) (t : Tables) (a : Action Handle) (rest : List Stmt) (env : Env Handle) (par : Option Handle) (p p' q : Pass) (e f : Ended Kept) (d : ℕ) (m : Handle) (inner : Env Handle) → Leaves w deep first olds t rest inner par p' q e → BeginsAct w funcs olds t a rest env par p → BesideValues p p' → Claims p.values.knows m p'.values.knows → Lacks p.values.knows m.slot → p'.values.knows.claims.over ≡ 0 → a ≡ Make d → inner ≡ bind d (ref m) env → Follows (then_ended (A m) e) f → LeavesAct w room deep first olds t a rest env par p q f
+leaves_make_on w funcs room deep first none short holding olds t a rest env par p p' q e f d m inner k b be c l o is env_is h = leaves_make w funcs room deep first none short holding olds t a rest env par p d m p' b be c l o inner is env_is q e f k h
 
-pub leaves_put_on : (w : Setting Handle) (funcs : List Func) (room : ℕ) (deep : Tracing Handle) (first : Cuts Handle) (none : StartsEmpty first) (short : Shortens deep first) (looks : HoldsHere w funcs deep) (olds : List Handle) (t : Tables) (a : Action Handle) (rest : List Stmt) (env : Env Handle) (par : Option Handle) (p p1 p' q : Pass) (e f : Ended Kept) (m : Handle) (x : Plain) (ws : List ℕ) → Leaves w deep first olds t rest env par p' q e → BeginsAct w funcs olds t a rest env par p → a ≡ Put m (plain_value x) → ws ≡ words_of x → of_words ws ≡ Some x → Roused t olds m ws p p1 → BesideValues p1 p' → p'.values.knows ≡ wrote m.slot (three_of ws) p1.values.knows → Follows (then_ended (W m x) e) f → LeavesAct w room deep first olds t a rest env par p q f
-leaves_put_on w funcs room deep first none short looks olds t a rest env par p p1 p' q e f m x ws k b is words value ro be wr h = leaves_put w funcs room deep first none short looks olds t a rest env par p m x ws is words value b p1 ro p' be wr q e f k h
+pub leaves_put_on : (w : Setting Handle) (funcs : List Func) (room : ℕ) (deep : Tracing Handle) (first : Cuts Handle) (none : StartsEmpty first) (short : Shortens deep first) (holding : HoldsHere w funcs deep) (olds : List Handle) (t : Tables) (a : Action Handle) (rest : List Stmt) (env : Env Handle) (par : Option Handle) (p p1 p' q : Pass) (e f : Ended Kept) (m : Handle) (x : Plain) (ws : List ℕ) → Leaves w deep first olds t rest env par p' q e → BeginsAct w funcs olds t a rest env par p → a ≡ Put m (plain_value x) → ws ≡ words_of x → of_words ws ≡ Some x → Roused t olds m ws p p1 → BesideValues p1 p' → p'.values.knows ≡ wrote m.slot (three_of ws) p1.values.knows → Follows (then_ended (W m x) e) f → LeavesAct w room deep first olds t a rest env par p q f
+leaves_put_on w funcs room deep first none short holding olds t a rest env par p p1 p' q e f m x ws k b is words value ro be wr h = leaves_put w funcs room deep first none short holding olds t a rest env par p m x ws is words value b p1 ro p' be wr q e f k h
 
-pub leaves_act_on : (w : Setting Handle) (funcs : List Func) (olds : List Handle) (t : Tables) (env : Env Handle) (par : Option Handle) (p p' q : Pass) (e : Ended Kept) (room inner : ℕ) (body : List Stmt) (s : Stmt) (rest : List Stmt) (a : Action Handle) → LeavesAct w inner (traced w funcs inner) (cut_short w funcs inner) olds t a rest env par p' q e → inner ≡ room - 1 → s ∷ rest ≡ body → Begins w funcs olds t body env par p → BesideValues p p' → Looked p.values.knows p'.values.knows → ((heap : Heap) → Readable w env p.values.knows heap (out-Stmt s) → action_of (listed w) w funcs env heap (out-Stmt s) ≡ Ok a) → 0 < room → Leaves w (traced w funcs room) (cut_short w funcs room) olds t body env par p q e
-leaves_act_on w funcs olds t env par p p' q e room inner body s rest a k i is b be l asked h =
-    leaves_act w funcs olds t env par p body s rest is b p' be l a asked room q e h (subst (λ z. LeavesAct w z (traced w funcs z) (cut_short w funcs z) olds t a rest env par p' q e) i k)
+pub leaves_act_on : (w : Setting Handle) (funcs : List Func) (olds : List Handle) (t : Tables) (env : Env Handle) (par : Option Handle) (p p' q : Pass) (e : Ended Kept) (room inner : ℕ) (body : List Stmt) (s : Stmt) (rest : List Stmt) (a : Action Handle) → LeavesAct w inner (traced w funcs inner) (cut_short w funcs inner) olds t a rest env par p' q e → inner ≡ room - 1 → s ∷ rest ≡ body → Begins w funcs olds t body env par p → BesideValues p p' → Looked p.values.knows p'.values.knows → p'.values.knows.looks ≡ p.values.knows.looks + looks_for a → ((heap : Heap) → Readable w env p.values.knows heap (out-Stmt s) → action_of (listed w) w funcs env heap (out-Stmt s) ≡ Ok a) → 0 < room → Leaves w (traced w funcs room) (cut_short w funcs room) olds t body env par p q e
+leaves_act_on w funcs olds t env par p p' q e room inner body s rest a k i is b be l saw asked h =
+    leaves_act w funcs olds t env par p body s rest is b p' be l a asked room q e saw h (subst (λ z. LeavesAct w z (traced w funcs z) (cut_short w funcs z) olds t a rest env par p' q e) i k)

@@ -1,6 +1,6 @@
 -- What a warning before a write does to a pass.
 use Rattle.std.proofs.lemmas.Grind.{common_steps}
-use Rattle.std.proofs.Common.{◌≡◌, ◌≢◌, ℕ, zero, suc, ◌<◌, ◌==◌, drop, map, List, [], ◌∷◌, ◌++◌, refl, ap, sym, ◌∙◌, subst, inl, inr, ⊎_elim, arith}
+use Rattle.std.proofs.Common.{◌≡◌, ◌≢◌, ℕ, zero, suc, ◌+◌, ◌≤◌, ◌<◌, ◌==◌, drop, map, List, [], ◌∷◌, ◌++◌, refl, ap, sym, ◌∙◌, subst, inl, inr, ⊎_elim, arith}
 use Rattle.std.specs.Prelude.{sum_by}
 use Rattle.psac_ops.specs.declared.plain.Handle.{Handle}
 use Rattle.psac_ops.specs.declared.plain.Plain.{Plain}
@@ -129,6 +129,9 @@ time_in y (x ∷ xs) h =
     other : (x y : ℕ) → (y ≡ x → ⊥) → times x (y ∷ []) ≡ 0
     other x y d = grind (arith, common_steps)
 
+one_look : (v u : ValueView) → u ≡ looked v → (n : ℕ) × (n ≤ 1) × (u.looks ≡ v.looks + n)
+one_look v u look = let e : u.looks ≡ suc v.looks = ap (λ (z : ValueView). z.looks) look in (1, omega arith, omega (arith, e))
+
 -- with no old destination nothing is done, and with the same words the pass looks
 module _ (t : Tables) (olds : List Handle) (m : Handle) (ws : List ℕ) (p q : Pass) (of : IsOf p t) where
   none_more : (n : MarksView) → n ≡ with_marks [] [] n
@@ -139,6 +142,7 @@ module _ (t : Tables) (olds : List Handle) (m : Handle) (ws : List ℕ) (p q : P
       record {
         of = of;
         looked = (p.values.knows.looks, refl);
+        looks = (0, omega arith, omega arith);
         claims = refl;
         mods = refl;
         walk = refl;
@@ -149,14 +153,15 @@ module _ (t : Tables) (olds : List Handle) (m : Handle) (ws : List ℕ) (p q : P
         only = λ ns h y less. absurd (omega (arith, less));
       }
 
-  module _ (be : BesideValues p q) (before : List ℕ) (words : (us : List ℕ) → Knows p.values.knows m us → before ≡ us) (looks : q.values.knows ≡ looked p.values.knows) where
+  module _ (be : BesideValues p q) (before : List ℕ) (words : (us : List ℕ) → Knows p.values.knows m us → before ≡ us) (look : q.values.knows ≡ looked p.values.knows) where
     pub rouse_looked : before ≡ ws → Roused t olds m ws p q
     rouse_looked same =
         let readers_are = ap (λ z. z.knows) be.readers in
         let marks_are = ap (λ z. z.knows) be.marks in
         record {
           of = (be.table ∙ of.0, subst (λ z. z.table ≡ t.readers) (sym be.readers) of.1, subst (λ z. z.table ≡ t.marks) (sym be.marks) of.2);
-          looked = (suc p.values.knows.looks, looks);
+          looked = (suc p.values.knows.looks, look);
+          looks = one_look p.values.knows q.values.knows look;
           claims = ap (λ (z : ReadersView). z.claims) readers_are;
           mods = ap (λ (z : ReadersView). z.mods) readers_are;
           walk = ap (λ (z : ReadersView). mods_of z.walk) readers_are;
@@ -172,12 +177,13 @@ module _ (t : Tables) (olds : List Handle) (m : Handle) (ws : List ℕ) (p q : P
   learned_mods s chain [] = refl
   learned_mods s chain (e ∷ es) = ap (λ z. e.of ∷ z) (learned_mods s chain es)
 
-  module _ (before : List ℕ) (words : (us : List ℕ) → Knows p.values.knows m us → before ≡ us) (looks : q.values.knows ≡ looked p.values.knows) (of_q : IsOf q t) (chain : List ℕ) (sets : q.readers.knows ≡ readers.learned m.slot chain p.readers.knows) (r : Raised p.readers.knows m.slot p.marks.knows q.marks.knows) where
+  module _ (before : List ℕ) (words : (us : List ℕ) → Knows p.values.knows m us → before ≡ us) (look : q.values.knows ≡ looked p.values.knows) (of_q : IsOf q t) (chain : List ℕ) (sets : q.readers.knows ≡ readers.learned m.slot chain p.readers.knows) (r : Raised p.readers.knows m.slot p.marks.knows q.marks.knows) where
     pub rouse_raised : Member m olds → (before ≡ ws → ⊥) → Roused t olds m ws p q
     rouse_raised o differ =
         record {
           of = of_q;
-          looked = (suc p.values.knows.looks, looks);
+          looked = (suc p.values.knows.looks, look);
+          looks = one_look p.values.knows q.values.knows look;
           claims = ap (λ (z : ReadersView). z.claims) sets;
           mods = ap (λ (z : ReadersView). z.mods) sets;
           walk = ap (λ (z : ReadersView). mods_of z.walk) sets ∙ learned_mods m.slot chain p.readers.knows.walk;

@@ -6,3 +6,4 @@ pub mod Running
 pub mod Grown
 pub mod Fit
 pub mod Raising
+pub mod Looks

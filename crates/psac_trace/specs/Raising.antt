@@ -1,5 +1,5 @@
 -- What a run needs of the readers of the destinations that it didn't make, and which of them it raises.
-use Rattle.std.specs.Prelude.{◌≡◌, ◌≢◌, ℕ, ◌<◌, false, List, [], ◌∷◌, ◌++◌, Some}
+use Rattle.std.specs.Prelude.{◌≡◌, ◌≢◌, ℕ, ◌+◌, ◌≤◌, ◌<◌, false, List, [], ◌∷◌, ◌++◌, Some}
 use Rattle.psac_ops.specs.declared.plain.Handle.{Handle}
 use Rattle.psac_ops.specs.declared.plain.Plain.{Plain}
 use Rattle.psac_ops.specs.Words.{words_of}
@@ -85,6 +85,8 @@ olds_after olds e = []
 pub record Roused (t : Tables) (olds : List Handle) (m : Handle) (ws : List ℕ) (p q : Pass) : Type 0 where
   pub of : IsOf q t
   pub looked : Looked p.values.knows q.values.knows
+  -- one look at most, at the words that it has
+  pub looks : (n : ℕ) × (n ≤ 1) × (q.values.knows.looks ≡ p.values.knows.looks + n)
   pub claims : q.readers.knows.claims ≡ p.readers.knows.claims
   pub mods : q.readers.knows.mods ≡ p.readers.knows.mods
   pub walk : mods_of q.readers.knows.walk ≡ mods_of p.readers.knows.walk

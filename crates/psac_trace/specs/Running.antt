@@ -30,10 +30,12 @@ use Rattle.psac_trace.specs.declared.halt.Halt.{Halt}
 use Rattle.psac_trace.specs.declared.halt.Halt.TheVariants as halt
 use Rattle.psac_trace.specs.Fit.{Fit, ParentKept}
 use Rattle.psac_trace.specs.Grown.{Made, made_below, count, as_own, Moves, Cause, IsFull}
+use Rattle.psac_trace.specs.Asking.{looks_for}
+use Rattle.psac_trace.specs.Looks.{Looks}
 use Rattle.psac_trace.specs.Rights.{Heap, held, In, Within, Wider, Named, Sees, Target, Tidy, Ready, Moved}
 use Rattle.psac_trace.specs.Raising.{Aged, Raisable, Warns, RaisesBy}
 use Rattle.psac_slots.specs.Handles.{Member}
-use Rattle.psac_trace.specs.Told.{Ended, Good, Fault, Other, Told, Needs, Tells, AreChecked, then_ended, bared, Follows}
+use Rattle.psac_trace.specs.Told.{Ended, Good, Fault, Other, what, Told, Needs, Tells, AreChecked, then_ended, bared, Follows}
 
 -- where a call ends with a record or a fault, no index was drawn past the room
 abbrev pub RoomAfter : Pass → Ended Kept → Type 0
@@ -76,6 +78,7 @@ pub record Leaves (w : Setting Handle) (deep : Tracing Handle) (first : Cuts Han
   pub room : RoomAfter q e
   pub full : FullBy p q e
   pub raises : RaisesBy olds p q e
+  pub looks : Looks 0 p.values.knows q.values.knows (what e)
   pub tells : Tells w deep first body env p.values.knows q.values.knows (bared e)
 
 -- an inner body begins as it needs, and writes the destinations that the statement is to write
@@ -156,6 +159,8 @@ pub record LeavesAct (w : Setting Handle) (level : ℕ) (deep : Tracing Handle) 
   pub room : RoomAfter q e
   pub full : FullBy p q e
   pub raises : RaisesBy olds p q e
+  -- its reads were looked at before
+  pub looks : Looks (looks_for a) p.values.knows q.values.knows (what e)
   pub tells : TellsAct w level deep first a rest env p.values.knows q.values.knows (bared e)
 
 -- behind a compound statement, whose node this is and which ended so, the rest begins where that is done
@@ -237,4 +242,5 @@ pub record LeavesBoth (w : Setting Handle) (level : ℕ) (deep : Tracing Handle)
   pub room : RoomAfter q e
   pub full : FullBy p q e
   pub raises : RaisesBy olds p q e
+  pub looks : Looks 0 p.values.knows q.values.knows (what e)
   pub tells : TellsBoth w level deep first ls rs rest env p.values.knows q.values.knows (bared e)

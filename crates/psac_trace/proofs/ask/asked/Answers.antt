@@ -4,7 +4,7 @@ use Rattle.psac_syntax.specs.declared.program.Stmt.TheOpen.{Stmt-F}
 use Rattle.psac_plain.specs.Slots.{env_of}
 use Rattle.psac_plain.specs.Running.{reads_view}
 use Rattle.psac_trace.specs.Asking.{setting_on}
-use Rattle.psac_trace.proofs.Ordered.{asked_read, asked_halt}
+use Rattle.psac_trace.proofs.Ordered.{asked_read, asked_halt, no_looks}
 use Rattle.psac_trace.proofs.ask.asked.Goals as goal
 
 pub returns-in-Ok-clause-asked : goal.returns-in-Ok-clause-asked
@@ -24,5 +24,9 @@ returns-in-Err-clause-asked c = λ heap s.
 
 pub returns-in_ok-ds-in-Call-clause-asked : goal.returns-in_ok-ds-in-Call-clause-asked
 returns-in_ok-ds-in-Call-clause-asked c = λ heap s.
-    let e = c.called.ensures (env_of c.args.env.now) in
+    let e = c.called_by.ensures.called (env_of c.args.env.now) in
     search (rules, the_lemmas, e)
+
+pub returns-in_ok-ds-in-Call-clause-looks : goal.returns-in_ok-ds-in-Call-clause-looks
+returns-in_ok-ds-in-Call-clause-looks c =
+    no_looks (env_of c.args.env.now) c.args.pass.now.knows.looks c.called_by.result (c.called_by.ensures.looks (env_of c.args.env.now))
