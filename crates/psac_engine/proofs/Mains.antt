@@ -97,7 +97,7 @@ made_nothing g texts funcs main t p b =
       all = (refl, (omega (arith, b.room.2), omega (arith, b.room.1)));
       room = tt;
       full = tt;
-      raises = tt;
+      raises = λ e y. refl;
       looks = looks_none p.values.knows p.values.knows E refl refl;
       tells = λ base st end m r. (
         subst (CutOn same_handle (cut_short (main_setting g texts main) funcs levels) main.body (main_places g main) base rec.E) (sym b.room.0) (cut_on_none same_handle (main_setting g texts main) funcs levels main.body (main_places g main) base),

@@ -18,7 +18,7 @@ use Rattle.psac_trace.specs.Told.{Ended, Good, Fault, Other, Tells, then_ended, 
 use Rattle.psac_trace.specs.Raising.{puts, Aged, Raisable, Warns, Raises, RaisesBy}
 use Rattle.psac_trace.proofs.Heaps.{Fresh, in_front, in_and_none}
 use Rattle.psac_trace.proofs.Tells.{told_within}
-use Rattle.psac_trace.proofs.Raised.{puts_in, slots_apart, Sequel, sequel_apart, sequel_unread, raises_then}
+use Rattle.psac_trace.proofs.Raised.{calm_by, calm_then, puts_in, slots_apart, Sequel, sequel_apart, sequel_unread, raises_then}
 use Rattle.psac_trace.proofs.Warning.{raisable_on, aged_on, open_at}
 
 -- a part left this record, made these and wrote its destinations; other old ones are still to be written
@@ -63,5 +63,5 @@ module _ (w : Setting Handle) (olds : List Handle) (t : Tables) (body : List Stm
       subst (Raises olds p q) (s n)
       (raises_then olds t p u q made more (puts k) (puts n) mv mq b.raised r (sequel_apart b.base k n q seq)
       (λ m x o i y j. sequel_unread b.base k n q seq mq.stays.tidy m x i (r.owned m x i) y.of (b.linked y j)))
-  behind_raises deep first f s q more mq (Fault n i l) r tells = tt
-  behind_raises deep first f s q more mq (Other n why) r tells = tt
+  behind_raises deep first f s q more mq (Fault n i l) r tells = calm_then olds p u q (calm_by olds p u mv.marks (Good k) b.raised) r
+  behind_raises deep first f s q more mq (Other n why) r tells = calm_then olds p u q (calm_by olds p u mv.marks (Good k) b.raised) r

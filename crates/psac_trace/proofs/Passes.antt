@@ -51,7 +51,7 @@ use Rattle.psac_values.specs.Knowing.{Knows}
 use Rattle.psac_record.specs.Kept.{Stands, stands}
 use Rattle.psac_traced.proofs.Holds.{HoldsHere}
 use Rattle.psac_trace.specs.Rights.{In, held}
-use Rattle.psac_trace.specs.Raising.{puts, RaisesBy, Warns, Raisable, olds_after}
+use Rattle.psac_trace.specs.Raising.{Calm, puts, RaisesBy, Warns, Raisable, olds_after}
 use Rattle.psac_trace.specs.Running.{WarnsAct}
 use Rattle.psac_trace.specs.Raising.{Roused}
 use Rattle.psac_traced.specs.Holds.{EachOf, Holds}
@@ -68,14 +68,14 @@ use Rattle.psac_trace.proofs.Claims.{append_none}
 use Rattle.psac_trace.proofs.Heaps.{in_back, in_and_none, one_is, Fresh}
 use Rattle.psac_trace.proofs.Moves.{narrow, target_narrow, ready_looked, moved_looked}
 use Rattle.psac_trace.proofs.Moving.{entry_member}
-use Rattle.psac_trace.proofs.Raised.{slots_apart, puts_in}
+use Rattle.psac_trace.proofs.Raised.{calm_by, calm_then, slots_apart, puts_in}
 use Rattle.psac_trace.proofs.Tells.{told_within, gone, put_ready, seq_ready, inner_moved, both_within, first_ready, first_told, second_ready, left_end, right_end}
 use Rattle.psac_trace.proofs.Goes.{goes_at, readable}
 use Rattle.psac_trace.proofs.Raised.{raises_none, raises_before, raises_follows, raises_opened, raises_looked, claimed_knows, seen_in, links_in}
 use Rattle.psac_trace.proofs.Warning.{warns_bind, warns_make, warns_inner, warns_of_none, target_back, raisable_on, aged_on, saw_at}
 use Rattle.psac_trace.proofs.Behind.{Behind, behind_warns, behind_raises}
 use Rattle.psac_trace.proofs.Rousing.{moves_roused, roused_room, raises_put}
-use Rattle.psac_trace.proofs.Uniting.{warns_left, warns_right, raises_joined}
+use Rattle.psac_trace.proofs.Uniting.{calm_joined, warns_left, warns_right, raises_joined}
 use Rattle.psac_trace.proofs.Claims.{over_past, drawn_more}
 use Rattle.psac_trace.proofs.Growing.{keeps_on}
 use Rattle.psac_trace.proofs.Moving.{vain_mine, moves_none, moves_then, full_then, full_more, BesideValues, values_room, moves_looked, moves_wrote, moves_claimed, moves_vain, fit_left, fit_right, parent_left, parent_right, room_left, room_right, moves_joined, full_left, full_right, over_joined}
@@ -140,8 +140,8 @@ does_want g t p q k begun halt.NoMemory m n l w = record { made = w.made; moves 
 
 halt_raises : (olds : List Handle) (t : Tables) (p q : Pass) (begun : Made) (k : Kept) (h : Halt) → HaltsFor t p q begun h → RaisesBy olds p q (halted k h)
 halt_raises olds t p q begun k (halt.Fault _ _) x = absurd x
-halt_raises olds t p q begun k (halt.Full _ _) x = tt
-halt_raises olds t p q begun k halt.NoMemory x = tt
+halt_raises olds t p q begun k (halt.Full _ _) x = λ e y. ap (times y) x.quiet
+halt_raises olds t p q begun k halt.NoMemory x = λ e y. ap (times y) x.quiet
 
 -- before a write the pass has looked
 told_looked : (deep : Tracing Handle) (first : Cuts Handle) (body : List Stmt) (st : Standing) (left : List ℕ) (env : Env Handle) (v u x : ValueView) (base : Heap) → Looked v u → (e : Ended (Rec Handle)) → Told deep first body st left env u x base e → Told deep first body st left env v x base e
@@ -180,7 +180,7 @@ module _ (w : Setting Handle) (funcs : List Func) (room : ℕ) (deep : Tracing H
         all = most_is p b.room nothing (made_below par E) refl;
         room = tt;
         full = tt;
-        raises = tt;
+        raises = λ e y. refl;
         looks = none_looked p E (ap looks_for is) (looks_none p.values.knows p.values.knows E refl refl);
         tells = begun_tells w room deep first a rest env p.values.knows p.values.knows rec.E None b.room.0 refl (λ base. before same_handle room deep first rest env base none a);
       }
@@ -235,7 +235,7 @@ module _ (w : Setting Handle) (funcs : List Func) (room : ℕ) (deep : Tracing H
           all = most_is p' claim_room one_made (made_below par (A m E)) refl;
           room = tt;
           full = tt;
-          raises = tt;
+          raises = λ e y. ap (λ z. times y z.knows.marked) be.marks;
           looks = none_looked p' (A m E) (ap looks_for is) (looks_none p.values.knows p'.values.knows (A m E) claim_looks refl);
           tells = subst (λ z. TellsAct w room deep first z rest env p.values.knows p'.values.knows (Other (rec.A m rec.E) None)) (sym is) (λ base st mid end more r g. (
             subst (CutOn same_handle (cuts room deep first (Make d)) rest env base (rec.A m rec.E)) (sym o) (at_new same_handle room deep first rest env base d m rec.E 0 (record { run = λ heap wi. none rest (bind d (ref m) env) heap })),
@@ -262,13 +262,13 @@ module _ (w : Setting Handle) (funcs : List Func) (room : ℕ) (deep : Tracing H
       raises_make : (q : Pass) (made : Made) → Moves t p' q made → (e : Ended Kept) → RaisesBy olds p' q e → RaisesBy olds p q (then_ended (A m) e)
       raises_make q made mv (Good k) r =
           raises_before olds t p p' q one_made made (puts k) claim_moves mv (raises_none olds p p' (ap (λ z. z.knows.marked) be.marks) (claimed_knows p.values.knows p'.values.knows m c l)) (λ n x o i s j. absurd j) r
-      raises_make q made mv (Fault k i n) r = tt
-      raises_make q made mv (Other k why) r = tt
+      raises_make q made mv (Fault k i n) r = calm_then olds p p' q (λ e y. ap (λ z. times y z.knows.marked) be.marks) r
+      raises_make q made mv (Other k why) r = calm_then olds p p' q (λ e y. ap (λ z. times y z.knows.marked) be.marks) r
 
       pub leaves_make : (q : Pass) (e f : Ended Kept) → Leaves w deep first olds t rest inner par p' q e → Follows (then_ended (A m) e) f → LeavesAct w room deep first olds t a rest env par p q f
       leaves_make q e f k h =
           act_of q f (does_then (made_below par) (made_below par) (A m) t p p' q one_made e f (λ x. refl) claim_moves (record { made = k.made; moves = k.moves; all = k.all; room = k.room; full = k.full }) h)
-          (raises_follows olds p q (then_ended (A m) e) f h (raises_make q k.made k.moves e k.raises))
+          (raises_follows olds p q (moves_then t p p' q one_made k.made claim_moves k.moves).marks (then_ended (A m) e) f h (raises_make q k.made k.moves e k.raises))
           (none_looked q (what f) (ap looks_for is) (looks_follow 0 p.values.knows q.values.knows (A m) e f h (looks_made p.values.knows p'.values.knows q.values.knows m (what e) claim_looks k.looks)))
           (act_then w room deep first short a rest env p.values.knows q (A m) (rec.A m) e f (λ x. refl) k.room h
           (subst (λ z. TellsAct w room deep first z rest env p.values.knows q.values.knows (then_ended (rec.A m) (bared e))) (sym is) (tells_make w room deep first rest env p.values.knows d m p'.values.knows c l q.values.knows (bared e) (subst (λ z. Tells w deep first rest z p'.values.knows q.values.knows (bared e)) env_is k.tells))))
@@ -289,7 +289,7 @@ module _ (w : Setting Handle) (funcs : List Func) (room : ℕ) (deep : Tracing H
         room = tt;
         looks = none_looked p' E (ap looks_for is) (looks_none v p'.values.knows E (ap (λ (z : ValueView). z.looks) e) refl);
         full = record { list = list; past = past; drew = subst (λ (z : ValueView). times at.index v.claims.drawn < times at.index z.claims.drawn) (sym e) (drawn_more v.claims at.index) };
-        raises = tt;
+        raises = λ e y. ap (λ z. times y z.knows.marked) be.marks;
         tells = subst (λ z. TellsAct w room deep first z rest env v p'.values.knows (Other rec.E (Some why))) (sym is) (λ base st mid end more r g. (
           subst (CutOn same_handle (cuts room deep first (Make d)) rest env base rec.E) (sym o) (vain_new same_handle room deep first rest env base d),
           λ m x i. sees_same v p'.values.knows (vain_mine v p'.values.knows at.index h e) (ap (λ (z : ValueView). z.known) e) m x (r.sees m x i),
@@ -382,7 +382,7 @@ module _ (w : Setting Handle) (funcs : List Func) (room : ℕ) (deep : Tracing H
         pub leaves_put : (q : Pass) (e f : Ended Kept) → Leaves w deep first olds t rest env par p' q e → Follows (then_ended (W m x) e) f → LeavesAct w room deep first olds t a rest env par p q f
         leaves_put q e f k h =
             act_of q f (does_then (made_below par) (made_below par) (W m x) t p p' q nothing e f (λ z. refl) put_moves (record { made = k.made; moves = k.moves; all = k.all; room = k.room; full = k.full }) h)
-            (raises_follows olds p q (then_ended (W m x) e) f h (behind_raises w olds t rest env p p' nothing written put_moves put_behind deep first (W m x) (λ z. refl) q k.made k.moves e k.raises k.tells))
+            (raises_follows olds p q (moves_then t p p' q nothing k.made put_moves k.moves).marks (then_ended (W m x) e) f h (behind_raises w olds t rest env p p' nothing written put_moves put_behind deep first (W m x) (λ z. refl) q k.made k.moves e k.raises k.tells))
             (none_looked q (what f) (ap looks_for is) (looks_follow 0 p.values.knows q.values.knows (W m x) e f h (looks_wrote p.values.knows p'.values.knows q.values.knows m x (what e) ro.looks.0 ro.looks.1 put_looks k.looks)))
             (act_then w room deep first short a rest env p.values.knows q (W m x) (rec.W m (plain_value x)) e f (λ z. refl) k.room h
             (subst (λ z. TellsAct w room deep first z rest env p.values.knows q.values.knows (then_ended (rec.W m (plain_value x)) (bared e))) (sym is)
@@ -410,11 +410,11 @@ module _ (w : Setting Handle) (funcs : List Func) (deep : Tracing Handle) (first
       (record { made = d.made; moves = d.moves; all = subst (NoMore u d.made) (step_end par node k) d.all; room = tt; full = d.full }))
 
   -- what was raised up to there, and behind it
-  pub raises_after : (made : Made) → Moves t p u made → (e : Ended Kept) (q : Pass) (o : Ended Kept) → ((k : Kept) → e ≡ Good k → Behind w olds rest env p u made k) → LeavesAfter w deep first olds t node e rest env u q o → RaisesBy olds p q o
-  raises_after made mv (Good k) q o past l =
-      raises_follows olds p q (then_ended (S node k) l.0) o l.2 (behind_raises w olds t rest env p u made k mv (past k refl) deep first (S node k) (λ z. refl) q l.1.made l.1.moves l.0 l.1.raises l.1.tells)
-  raises_after made mv (Fault k c n) q o past l = subst (RaisesBy olds p q) (sym l.1) tt
-  raises_after made mv (Other k why) q o past l = subst (RaisesBy olds p q) (sym l.1) tt
+  pub raises_after : (made : Made) → Moves t p u made → Calm olds p u → (e : Ended Kept) (q : Pass) (o : Ended Kept) → ((k : Kept) → e ≡ Good k → Behind w olds rest env p u made k) → LeavesAfter w deep first olds t node e rest env u q o → RaisesBy olds p q o
+  raises_after made mv calm (Good k) q o past l =
+      raises_follows olds p q (moves_then t p u q made l.1.made mv l.1.moves).marks (then_ended (S node k) l.0) o l.2 (behind_raises w olds t rest env p u made k mv (past k refl) deep first (S node k) (λ z. refl) q l.1.made l.1.moves l.0 l.1.raises l.1.tells)
+  raises_after made mv calm (Fault k c n) q o past l = subst (RaisesBy olds p q) (sym l.1) (subst (Calm olds p) (sym l.0) calm)
+  raises_after made mv calm (Other k why) q o past l = subst (RaisesBy olds p q) (sym l.1) (subst (Calm olds p) (sym l.0) calm)
 
 -- a par, behind its node
 warns_on : (olds : List Handle) (t : Tables) (rest : List Stmt) (env : Env Handle) (p u : Pass) (a : Made) (ls rs : List Stmt) (w : Setting Handle) → Opens t p u a → a.links ≡ [] → WarnsAct w olds (Sides ls rs) rest env p → WarnsAct w olds (Sides ls rs) rest env u
@@ -523,7 +523,7 @@ module _ (w : Setting Handle) (funcs : List Func) (room : ℕ) (deep : Tracing H
             pick (Other k why) r told past = tt
 
         pub leaves_inner : (q : Pass) (o : Ended Kept) → LeavesAfter w deep first olds t node e rest env u q o → LeavesAct w room deep first olds t (Body body inner) rest env par p q o
-        leaves_inner q o h = act_of w funcs room deep first none short holding olds t (Body body inner) rest env par p q o (does_after w funcs deep first olds t rest env par node p u e q o inner_does h) (raises_after w funcs deep first olds t rest env par node p u inner_made inner_moves e q o inner_behind h) (looks_after w deep first olds t node rest env 0 v u q e o (looks_from v p1.values.knows u.values.knows (what e) op.same l.looks) h) (pick e inner_told h)
+        leaves_inner q o h = act_of w funcs room deep first none short holding olds t (Body body inner) rest env par p q o (does_after w funcs deep first olds t rest env par node p u e q o inner_does h) (raises_after w funcs deep first olds t rest env par node p u inner_made inner_moves (calm_then olds p p1 u (λ z y. ap (times y) op.quiet) (calm_by olds p1 u l.moves.marks e l.raises)) e q o inner_behind h) (looks_after w deep first olds t node rest env 0 v u q e o (looks_from v p1.values.knows u.values.knows (what e) op.same l.looks) h) (pick e inner_told h)
           where
             pick : (e : Ended Kept) → Tells w deep first body inner v u.values.knows (bared e) → LeavesAfter w deep first olds t node e rest env u q o → TellsAct w room deep first (Body body inner) rest env v q.values.knows (bared o)
             pick (Good k) told h =
@@ -571,7 +571,7 @@ module _ (w : Setting Handle) (funcs : List Func) (room : ℕ) (deep : Tracing H
             all = most_is p1 op.room (read_made par node r) (read_made par node r) refl;
             room = tt;
             full = tt;
-            raises = tt;
+            raises = λ e y. ap (times y) op.quiet;
             looks = subst (λ z. Looks (length reads) v z (S node (R r E) E)) (sym op.same) (begun_looks node);
             tells = begun_tells w room deep first (Block number reads body inner) rest env v p1.values.knows (rec.S (bare (R r E)) rec.E) None b.room.0 op.same begun_block;
           }
@@ -697,7 +697,7 @@ module _ (w : Setting Handle) (funcs : List Func) (room : ℕ) (deep : Tracing H
           block_looks = looks_follow (length reads) v u.values.knows (R r) e f fo (looks_block v u.values.knows r reads (what e) began.reads (looks_from v p1.values.knows u.values.knows (what e) op.same l.looks))
 
           pub leaves_block : (q : Pass) (o : Ended Kept) → LeavesAfter w deep first olds t node f rest env u q o → LeavesAct w room deep first olds t (Block number reads body inner) rest env par p q o
-          leaves_block q o h = act_of w funcs room deep first none short holding olds t (Block number reads body inner) rest env par p q o (does_after w funcs deep first olds t rest env par node p u f q o block_does h) (raises_after w funcs deep first olds t rest env par node p u all_made block_moves f q o (block_behind began) h) (looks_after w deep first olds t node rest env (length reads) v u q f o block_looks h) (after_tells q o f fo h)
+          leaves_block q o h = act_of w funcs room deep first none short holding olds t (Block number reads body inner) rest env par p q o (does_after w funcs deep first olds t rest env par node p u f q o block_does h) (raises_after w funcs deep first olds t rest env par node p u all_made block_moves (calm_then olds p p1 u (λ z y. ap (times y) op.quiet) (calm_by olds p1 u l.moves.marks e l.raises)) f q o (block_behind began) h) (looks_after w deep first olds t node rest env (length reads) v u q f o block_looks h) (after_tells q o f fo h)
 
   -- par
   module _ (ls rs : List Stmt) (b : BeginsAct w funcs olds t (Sides ls rs) rest env par p) where
@@ -779,7 +779,7 @@ module _ (w : Setting Handle) (funcs : List Func) (room : ℕ) (deep : Tracing H
             pick (Other k why) r told past = tt
 
         pub leaves_par : (q : Pass) (o : Ended Kept) → LeavesAfter w deep first olds t node e rest env u q o → LeavesAct w room deep first olds t (Sides ls rs) rest env par p q o
-        leaves_par q o h = act_of w funcs room deep first none short holding olds t (Sides ls rs) rest env par p q o (does_after w funcs deep first olds t rest env par node p u e q o par_does h) (raises_after w funcs deep first olds t rest env par node p u par_made par_moves e q o par_behind h) (looks_after w deep first olds t node rest env 0 v u q e o (looks_from v p1.values.knows u.values.knows (what e) op.same l.looks) h) (pick e par_told h)
+        leaves_par q o h = act_of w funcs room deep first none short holding olds t (Sides ls rs) rest env par p q o (does_after w funcs deep first olds t rest env par node p u e q o par_does h) (raises_after w funcs deep first olds t rest env par node p u par_made par_moves (calm_then olds p p1 u (λ z y. ap (times y) op.quiet) (calm_by olds p1 u l.moves.marks e l.raises)) e q o par_behind h) (looks_after w deep first olds t node rest env 0 v u q e o (looks_from v p1.values.knows u.values.knows (what e) op.same l.looks) h) (pick e par_told h)
           where
             pick : (e : Ended Kept) → TellsBoth w room deep first ls rs rest env v u.values.knows (bared e) → LeavesAfter w deep first olds t node e rest env u q o → TellsAct w room deep first (Sides ls rs) rest env v q.values.knows (bared o)
             pick (Good k) told h =
@@ -834,15 +834,15 @@ module _ (w : Setting Handle) (funcs : List Func) (room : ℕ) (deep : Tracing H
           all = all_follows (made_below par) j (followed one_node made) e o fo ro all;
           room = room_follows j e o fo ro;
           full = full_follows p j e o fo (full_before t p p1 j one_node e op.moves fu);
-          raises = raises_follows olds p j e o fo (opened e ra);
+          raises = raises_follows olds p j (moves_then t p p1 j one_node made op.moves mv).marks e o fo (opened e ra);
           looks = looks_from p.values.knows p1.values.knows j.values.knows (what o) op.same (subst (Looks 0 p1.values.knows j.values.knows) (sym (what_both node one two) ∙ same_what e o fo) lo);
           tells = subst (λ z. TellsBoth w room deep first ls rs rest env z j.values.knows (bared o)) op.same (both_follows w room deep first rest env p1.values.knows ls rs short j.values.knows (bared e) (bared o) (whole_of j e ro) (follows_bared e o fo) told);
         }
       where
         opened : (e : Ended Kept) → RaisesBy olds p1 j e → RaisesBy olds p j e
         opened (Good k) r = raises_before olds t p p1 j one_node made (puts k) op.moves mv (raises_opened olds t p p1 one_node op) (λ m x y i s n. absurd n) r
-        opened (Fault k i n) r = tt
-        opened (Other k why) r = tt
+        opened (Fault k i n) r = calm_then olds p p1 j (λ z y. ap (times y) op.quiet) r
+        opened (Other k why) r = calm_then olds p p1 j (λ z y. ap (times y) op.quiet) r
 
     warns_here : WarnsAct w olds (Sides ls rs) rest env p1
     warns_here = warns_on olds t rest env p p1 one_node ls rs w op refl b.warns
@@ -878,7 +878,7 @@ module _ (w : Setting Handle) (funcs : List Func) (room : ℕ) (deep : Tracing H
           all = subst (NoMore u (followed one_node l.made)) (side_made par node k) (most_front u one_node l.made (made_below (Some node) k) l.all);
           room = tt;
           full = full_then t p p1 u one_node (record { which = which; index = at.index; room = at.room }) op.moves l.full;
-          raises = tt;
+          raises = calm_then olds p p1 u (λ e y. ap (times y) op.quiet) l.raises;
           looks = looks_from p.values.knows p1.values.knows u.values.knows (P node k E) op.same (looks_left p1.values.knows u.values.knows node k l.looks);
           tells = subst (λ z. TellsBoth w room deep first ls rs rest env z u.values.knows (Other (rec.P (bare k) rec.E) (Some (record { which = which; index = at.index; room = at.room })))) op.same (tells_left_out w room deep first rest env p1.values.knows ls rs tidy_here u.values.knows l.moves.stays none (bare k) (Some (record { which = which; index = at.index; room = at.room })) l.tells);
         }
@@ -889,7 +889,7 @@ module _ (w : Setting Handle) (funcs : List Func) (room : ℕ) (deep : Tracing H
           all = subst (NoMore u (followed one_node l.made)) (side_made par node k) (most_front u one_node l.made (made_below (Some node) k) l.all);
           room = tt;
           full = tt;
-          raises = tt;
+          raises = calm_then olds p p1 u (λ e y. ap (times y) op.quiet) l.raises;
           looks = looks_from p.values.knows p1.values.knows u.values.knows (P node k E) op.same (looks_left p1.values.knows u.values.knows node k l.looks);
           tells = subst (λ z. TellsBoth w room deep first ls rs rest env z u.values.knows (Other (rec.P (bare k) rec.E) None)) op.same (tells_left_out w room deep first rest env p1.values.knows ls rs tidy_here u.values.knows l.moves.stays none (bare k) None l.tells);
         }
@@ -947,19 +947,19 @@ module _ (w : Setting Handle) (funcs : List Func) (room : ℕ) (deep : Tracing H
             warns = second_warns one second_behind second_needs;
           }
 
-      second_raises : (e two : Ended Kept) (j : Pass) (more : Made) → Moves t u j more → ((k : Kept) → e ≡ Good k → Behind w olds rs env p1 u l.made k) → RaisesBy (olds_after olds e) u j two → Tells w deep first rs env u.values.knows j.values.knows (bared two) → RaisesBy olds p1 j (both_ended (P node) e two)
-      second_raises (Good k) two j more mv past r tells = subst (RaisesBy olds p1 j) (both_good node k two) (behind_raises w olds t rs env p1 u l.made k l.moves (past k refl) deep first (P node k) (λ z. refl) j more mv two r tells)
-      second_raises (Fault k i c) (Good b) j more mv past r tells = tt
-      second_raises (Fault k i c) (Fault b d f) j more mv past r tells = tt
-      second_raises (Fault k i c) (Other b why) j more mv past r tells = tt
-      second_raises (Other k why) two j more mv past r tells = tt
+      second_raises : (e two : Ended Kept) (j : Pass) (more : Made) → Moves t u j more → Calm olds p1 u → ((k : Kept) → e ≡ Good k → Behind w olds rs env p1 u l.made k) → RaisesBy (olds_after olds e) u j two → Tells w deep first rs env u.values.knows j.values.knows (bared two) → RaisesBy olds p1 j (both_ended (P node) e two)
+      second_raises (Good k) two j more mv calm past r tells = subst (RaisesBy olds p1 j) (both_good node k two) (behind_raises w olds t rs env p1 u l.made k l.moves (past k refl) deep first (P node k) (λ z. refl) j more mv two r tells)
+      second_raises (Fault k i c) (Good b) j more mv calm past r tells = λ e y. calm_by [] u j mv.marks (Good b) r refl y ∙ calm e y
+      second_raises (Fault k i c) (Fault b d f) j more mv calm past r tells = λ e y. calm_by [] u j mv.marks (Fault b d f) r refl y ∙ calm e y
+      second_raises (Fault k i c) (Other b why) j more mv calm past r tells = λ e y. calm_by [] u j mv.marks (Other b why) r refl y ∙ calm e y
+      second_raises (Other k why) two j more mv calm past r tells = λ e y. calm_by [] u j mv.marks two r refl y ∙ calm e y
 
       pub leaves_second : (j : Pass) (two o : Ended Kept) → Leaves w deep first (olds_after olds one) t rs env (Some node) u j two → Follows (both_ended (P node) one two) o → LeavesBoth w room deep first olds t ls rs rest env par p j o
       leaves_second j two o m fo =
           let hr = room_first one h l.room in
           whole j (followed l.made m.made) one two o
           (moves_then t p1 u j l.made m.made l.moves m.moves)
-          (second_raises one two j m.made m.moves second_behind m.raises m.tells)
+          (second_raises one two j m.made m.moves (calm_by olds p1 u l.moves.marks one l.raises) second_behind m.raises m.tells)
           (all_both (made_below (Some node)) u j j l.made m.made (P node) (made_below par) one_node (sides_made par node) (λ c. omega arith) one two l.room m.room l.all m.all)
           (room_both j u j (P node) (λ x y. y) one two l.room m.room)
           (full_both p1 j p1 u u j (P node) (λ c f. full_more t p1 u j m.made c m.moves f) (λ c f. full_then t p1 u j l.made c l.moves f) one two l.full m.full)
@@ -1023,14 +1023,17 @@ module _ (w : Setting Handle) (funcs : List Func) (room : ℕ) (deep : Tracing H
             (tells_forked w room deep first rest env p1.values.knows ls rs tidy_here l'.values.knows k'.values.knows j.values.knows kl kk jv un short (bared one) (bared two) (whole_of l' one ll.room) (whole_of k' two lk.room) (subst (λ z. Tells w deep first ls env z l'.values.knows (bared one)) lv ll.tells) (subst (λ z. Tells w deep first rs env z k'.values.knows (bared two)) kv lk.tells))
             fo
           where
+            sides_calm : Calm olds l l' → Calm olds k k' → Calm olds p1 j
+            sides_calm x y = calm_joined w olds p1 l k ls rs rest env op.moves.fit.nodes tidy_here warns_here.aged lv kv lr kr lm km l' k' j jm x y
+
             raises : (e f : Ended Kept) → RaisesBy olds l l' e → RaisesBy olds k k' f → RaisesBy olds p1 j (both_ended (P node) e f)
             raises (Good a) (Good c) x y = raises_joined w olds p1 l k ls rs rest env op.moves.fit.nodes tidy_here warns_here.aged lv kv lr kr lm km l' k' j ll.moves.stays lk.moves.stays jv un jm (puts a) (puts c) x y
-            raises (Good a) (Fault c i n) x y = tt
-            raises (Good a) (Other c why) x y = tt
-            raises (Fault a i n) (Good c) x y = tt
-            raises (Fault a i n) (Fault c d f) x y = tt
-            raises (Fault a i n) (Other c why) x y = tt
-            raises (Other a why) f x y = tt
+            raises (Good a) (Fault c i n) x y = sides_calm (calm_by olds l l' ll.moves.marks (Good a) x) (calm_by olds k k' lk.moves.marks (Fault c i n) y)
+            raises (Good a) (Other c why) x y = sides_calm (calm_by olds l l' ll.moves.marks (Good a) x) (calm_by olds k k' lk.moves.marks (Other c why) y)
+            raises (Fault a i n) (Good c) x y = sides_calm (calm_by olds l l' ll.moves.marks (Fault a i n) x) (calm_by olds k k' lk.moves.marks (Good c) y)
+            raises (Fault a i n) (Fault c d f) x y = sides_calm (calm_by olds l l' ll.moves.marks (Fault a i n) x) (calm_by olds k k' lk.moves.marks (Fault c d f) y)
+            raises (Fault a i n) (Other c why) x y = sides_calm (calm_by olds l l' ll.moves.marks (Fault a i n) x) (calm_by olds k k' lk.moves.marks (Other c why) y)
+            raises (Other a why) f x y = sides_calm (calm_by olds l l' ll.moves.marks (Other a why) x) (calm_by olds k k' lk.moves.marks f y)
 
 -- a body
 module _ (w : Setting Handle) (funcs : List Func) (olds : List Handle) (t : Tables) (env : Env Handle) (par : Option Handle) (p : Pass) where
@@ -1061,7 +1064,7 @@ module _ (w : Setting Handle) (funcs : List Func) (olds : List Handle) (t : Tabl
         all = refl;
         room = b.room;
         full = tt;
-        raises = tt;
+        raises = λ e y. refl;
         looks = looks_none p.values.knows p.values.knows E refl refl;
         tells = subst (λ k. Tells w (traced w funcs k) (cut_short w funcs k) body env p.values.knows p.values.knows (Fault rec.E TooDeep n)) (sym z)
             (subst (λ x. Tells w (traced w funcs 0) (cut_short w funcs 0) x env p.values.knows p.values.knows (Fault rec.E TooDeep n)) is
@@ -1090,7 +1093,7 @@ module _ (w : Setting Handle) (funcs : List Func) (olds : List Handle) (t : Tabl
             all = most_is p' asked_room nothing (made_below par E) refl;
             room = tt;
             full = tt;
-            raises = tt;
+            raises = λ e y. ap (λ z. times y z.knows.marked) be.marks;
             looks = looks_none p.values.knows p'.values.knows E un refl;
             tells = λ base st end m r. (subst (CutOn same_handle (cut_short w funcs room) body env base rec.E) (sym asked_room.0) (cut_on_none same_handle w funcs room body env base), λ n x e. sees_looked p.values.knows p'.values.knows n x l (r.sees n x e));
           }
@@ -1103,7 +1106,7 @@ module _ (w : Setting Handle) (funcs : List Func) (olds : List Handle) (t : Tabl
             all = refl;
             room = asked_room;
             full = tt;
-            raises = tt;
+            raises = λ e y. ap (λ z. times y z.knows.marked) be.marks;
             looks = looks_none p.values.knows p'.values.knows E un refl;
             tells = subst (λ z. Tells w (traced w funcs z) (cut_short w funcs z) body env p.values.knows p'.values.knows (Fault rec.E k n)) (suc_less room h)
                 (subst (λ x. Tells w (traced w funcs (suc (room - 1))) (cut_short w funcs (suc (room - 1))) x env p.values.knows p'.values.knows (Fault rec.E k n)) is
@@ -1163,8 +1166,8 @@ module _ (w : Setting Handle) (funcs : List Func) (olds : List Handle) (t : Tabl
           where
             looked_raises : (e : Ended Kept) → RaisesBy olds p' q e → RaisesBy olds p q e
             looked_raises (Good c) r = raises_before olds t p p' q nothing k.made (puts c) asked_moves k.moves (raises_looked olds p p' be l) (λ m x o i y j. absurd j) r
-            looked_raises (Fault c i n) r = tt
-            looked_raises (Other c why) r = tt
+            looked_raises (Fault c i n) r = calm_then olds p p' q (λ e y. ap (λ z. times y z.knows.marked) be.marks) r
+            looked_raises (Other c why) r = calm_then olds p p' q (λ e y. ap (λ z. times y z.knows.marked) be.marks) r
 
 -- the same, with what tells the pass in between first
 pub leaves_make_on : (w : Setting Handle) (funcs : List Func) (room : ℕ) (deep : Tracing Handle) (first : Cuts Handle) (none : StartsEmpty first) (short : Shortens deep first) (holding : HoldsHere w funcs deep) (olds : List Handle) (t : Tables) (a : Action Handle) (rest : List Stmt) (env : Env Handle) (par : Option Handle) (p p' q : Pass) (e f : Ended Kept) (d : ℕ) (m : Handle) (inner : Env Handle) → Leaves w deep first olds t rest inner par p' q e → BeginsAct w funcs olds t a rest env par p → BesideValues p p' → Claims p.values.knows m p'.values.knows → Lacks p.values.knows m.slot → p'.values.knows.claims.over ≡ 0 → a ≡ Make d → inner ≡ bind d (ref m) env → Follows (then_ended (A m) e) f → LeavesAct w room deep first olds t a rest env par p q f

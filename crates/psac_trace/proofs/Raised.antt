@@ -1,6 +1,6 @@
 -- What one call after another raised.
 use Rattle.std.specs.Prelude.{cond}
-use Rattle.std.proofs.Common.{◌≡◌, ◌≢◌, ◌⊎◌, ◌==◌, false, ℕ, ◌-◌, ◌<◌, List, [], ◌∷◌, ◌++◌, map, Some, ap, sym, ◌∙◌, subst, inl, inr, ⊎_elim, arith, append_assoc}
+use Rattle.std.proofs.Common.{◌≡◌, ◌≢◌, ◌⊎◌, ◌==◌, false, ℕ, ◌-◌, ◌<◌, Some, None, List, [], ◌∷◌, ◌++◌, map, Some, ap, sym, ◌∙◌, subst, inl, inr, ⊎_elim, arith, append_assoc}
 use Rattle.psac_ops.specs.declared.plain.Handle.{Handle}
 use Rattle.psac_ops.specs.declared.plain.Plain.{Plain}
 use Rattle.psac_ops.specs.Value.{Value}
@@ -21,9 +21,9 @@ use Rattle.psac_traced.specs.Holds.{EachOf, Holds}
 use Rattle.psac_record.specs.declared.parts.Seen.{Seen}
 use Rattle.psac_record.specs.Kept.{Kept, E, A, W, S, P, R, Stands, stands, links_of, bare, reads_of}
 use Rattle.psac_trace.specs.Rights.{Heap, held, In, Within, Sees, Shares, Tidy}
-use Rattle.psac_trace.specs.Grown.{Made, Moves}
+use Rattle.psac_trace.specs.Grown.{MoreMarks, Made, Moves}
 use Rattle.psac_trace.specs.Told.{Ended, Good, Fault, Other, then_ended, Follows}
-use Rattle.psac_trace.specs.Raising.{puts, Raises, RaisesBy}
+use Rattle.psac_trace.specs.Raising.{Calm, puts, Raises, RaisesBy}
 use Rattle.psac_values.specs.Steps.{Lacks, new_owned}
 use Rattle.psac_values.specs.Knowing.{Claims, wrote, rewritten}
 use Rattle.psac_slots.proofs.Pairs.{map_member}
@@ -176,15 +176,26 @@ module _ (base : Heap) (t k : Kept) (q : Pass) (s : Sequel base q.values.knows (
       slots_apart q.values.knows tidy n m o.0 (s.sees n o.0 o.1) h (λ e. in_and_none (writes (bare t) ++ base) m (subst (In (writes (bare t) ++ base)) e o) (s.fresh m (puts_in k m x i)))
 
 -- ends
-pub raises_follows : (olds : List Handle) (p q : Pass) (e o : Ended Kept) → Follows e o → RaisesBy olds p q e → RaisesBy olds p q o
-raises_follows olds p q e (Good k) f r = subst (RaisesBy olds p q) f r
-raises_follows olds p q e (Fault k i n) f r = tt
-raises_follows olds p q e (Other k why) f r = tt
+pub calm_by : (olds : List Handle) (p q : Pass) → MoreMarks p.marks.knows q.marks.knows → (e : Ended Kept) → RaisesBy olds p q e → Calm olds p q
+calm_by olds p q grow (Good k) r = λ none y.
+    let i = times y p.marks.knows.marked in
+    let j = times y q.marks.knows.marked in
+    let g = grow.marked y in
+    elim (zero_or (j - i)) [
+      | inl z ↦ omega (arith, z, g)
+      | inr z ↦ absurd (r.only [] (λ m x o n d. absurd (subst (Member m) none o)) y (omega (arith, z)))
+    ]
+calm_by olds p q grow (Fault k i n) r = r
+calm_by olds p q grow (Other k why) r = r
 
-pub raises_map : (olds : List Handle) (p q : Pass) (f : Kept → Kept) → ((k : Kept) → puts k ≡ puts (f k)) → (e : Ended Kept) → RaisesBy olds p q e → RaisesBy olds p q (then_ended f e)
-raises_map olds p q f s (Good k) r = subst (Raises olds p q) (s k) r
-raises_map olds p q f s (Fault k i n) r = tt
-raises_map olds p q f s (Other k why) r = tt
+pub calm_then : (olds : List Handle) (p u q : Pass) → Calm olds p u → Calm olds u q → Calm olds p q
+calm_then olds p u q a b e y = b e y ∙ a e y
+
+pub raises_follows : (olds : List Handle) (p q : Pass) → MoreMarks p.marks.knows q.marks.knows → (e o : Ended Kept) → Follows e o → RaisesBy olds p q e → RaisesBy olds p q o
+raises_follows olds p q grow e (Good k) f r = subst (RaisesBy olds p q) f r
+raises_follows olds p q grow e (Fault k i n) f r = subst (RaisesBy olds p q) f r
+raises_follows olds p q grow e (Other k (Some c)) f r = subst (RaisesBy olds p q) f r
+raises_follows olds p q grow e (Other k None) f r = calm_by olds p q grow e r
 
 -- in front of a part that wrote nothing
 pub raises_before : (olds : List Handle) (t : Tables) (p u q : Pass) (a b : Made) (ws : List (Handle × Plain)) → Moves t p u a → Moves t u q b → Raises olds p u [] → ((m : Handle) (x : Plain) → Member m olds → Member (m, x) ws → (s : Stands) → Member s a.links → s.of.slot ≢ m.slot) → Raises olds u q ws → Raises olds p q ws

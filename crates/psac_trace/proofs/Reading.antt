@@ -73,6 +73,7 @@ module _ (t : Tables) (p q : Pass) (of : IsOf p t) (tidy : Tidy p.values.knows) 
         made = nothing;
         moves = moves_no_node t p q of tidy fit b at.index low e;
         same = ap (λ z. z.knows) b.values;
+        quiet = ap (λ (z : MarksView). z.marked) e;
         mods = refl;
         most = (omega (arith, o, r), omega (arith, readers_is));
         full = record { list = list; past = past; drew = subst (λ (z : MarksView). times at.index v.claims.drawn < times at.index z.claims.drawn) (sym e) (drawn_more v.claims at.index) };
@@ -81,24 +82,24 @@ module _ (t : Tables) (p q : Pass) (of : IsOf p t) (tidy : Tidy p.values.knows) 
 -- halts, behind what was made before, and with more begun
 pub halts_more : (t : Tables) (p q : Pass) (a b : Made) (h : Halt) → a.mods ≡ b.mods → length a.nodes ≤ length b.nodes → length a.links ≤ length b.links → HaltsFor t p q a h → HaltsFor t p q b h
 halts_more t p q a b (halt.Fault _ _) m n l w = absurd w
-halts_more t p q a b (halt.Full _ _) m n l w = record { made = w.made; moves = w.moves; same = w.same; mods = w.mods ∙ m; most = (let x = w.most.0 in let y = w.most.1 in (omega (arith, x, n), omega (arith, y, l))); full = w.full }
-halts_more t p q a b halt.NoMemory m n l w = record { made = w.made; moves = w.moves; same = w.same; mods = w.mods ∙ m; most = (let x = w.most.0 in let y = w.most.1 in (omega (arith, x, n), omega (arith, y, l))); full = w.full }
+halts_more t p q a b (halt.Full _ _) m n l w = record { made = w.made; moves = w.moves; same = w.same; quiet = w.quiet; mods = w.mods ∙ m; most = (let x = w.most.0 in let y = w.most.1 in (omega (arith, x, n), omega (arith, y, l))); full = w.full }
+halts_more t p q a b halt.NoMemory m n l w = record { made = w.made; moves = w.moves; same = w.same; quiet = w.quiet; mods = w.mods ∙ m; most = (let x = w.most.0 in let y = w.most.1 in (omega (arith, x, n), omega (arith, y, l))); full = w.full }
 
-pub halts_then : (t : Tables) (p u q : Pass) (m a : Made) (h : Halt) → Moves t p u m → u.values.knows ≡ p.values.knows → HaltsFor t u q a h → HaltsFor t p q (followed m a) h
-halts_then t p u q m a (halt.Fault _ _) mv e w = absurd w
-halts_then t p u q m a (halt.Full which at) mv e w =
+pub halts_then : (t : Tables) (p u q : Pass) (m a : Made) (h : Halt) → Moves t p u m → u.values.knows ≡ p.values.knows → u.marks.knows.marked ≡ p.marks.knows.marked → HaltsFor t u q a h → HaltsFor t p q (followed m a) h
+halts_then t p u q m a (halt.Fault _ _) mv e f w = absurd w
+halts_then t p u q m a (halt.Full which at) mv e f w =
     let front = most_front q m w.made a (w.mods, w.most) in
-    record { made = followed m w.made; moves = moves_then t p u q m w.made mv w.moves; same = w.same ∙ e; mods = front.0; most = front.1; full = full_then t p u q m (record { which = which; index = at.index; room = at.room }) mv w.full }
-halts_then t p u q m a halt.NoMemory mv e w =
+    record { made = followed m w.made; moves = moves_then t p u q m w.made mv w.moves; same = w.same ∙ e; quiet = w.quiet ∙ f; mods = front.0; most = front.1; full = full_then t p u q m (record { which = which; index = at.index; room = at.room }) mv w.full }
+halts_then t p u q m a halt.NoMemory mv e f w =
     let front = most_front q m w.made a (w.mods, w.most) in
-    record { made = followed m w.made; moves = moves_then t p u q m w.made mv w.moves; same = w.same ∙ e; mods = front.0; most = front.1; full = tt }
+    record { made = followed m w.made; moves = moves_then t p u q m w.made mv w.moves; same = w.same ∙ e; quiet = w.quiet ∙ f; mods = front.0; most = front.1; full = tt }
 
 -- want of memory
 pub memory_halts : (t : Tables) (p q : Pass) (m b : Made) → Opens t p q m → m.mods ≡ b.mods → length m.nodes ≤ length b.nodes → length m.links ≤ length b.links → HaltsFor t p q b halt.NoMemory
 memory_halts t p q m b op e n l =
     let on = op.room.2 in
     let ol = op.room.1 in
-    record { made = m; moves = op.moves; same = op.same; mods = e; most = (omega (arith, on, n), omega (arith, ol, l)); full = tt }
+    record { made = m; moves = op.moves; same = op.same; quiet = op.quiet; mods = e; most = (omega (arith, on, n), omega (arith, ol, l)); full = tt }
 
 -- links
 
@@ -161,6 +162,7 @@ module _ (t : Tables) (p q : Pass) (of : IsOf p t) (tidy : Tidy p.values.knows) 
       let marks_is = ap (λ z. z.knows.claims.over) b.marks ∙ room.2 in
       record {
         made = nothing;
+        quiet = ap (λ z. z.knows.marked) b.marks;
         moves = moves_no_link t p q of tidy fit b at.index low e;
         same = ap (λ z. z.knows) b.values;
         mods = refl;
@@ -183,7 +185,7 @@ module _ (t : Tables) (p u q : Pass) (node : Handle) (all : List Linked) (op : O
       let a : Made = followed (links_only ls) (links_only (s ∷ [])) in
       let k = length-append ls (s ∷ []) in
       let rest : Made = links_only (map (stands node) (all ++ map unlinked seen)) in
-      halts_more t p q a rest h refl (omega arith) (omega (arith, n, k, more)) (halts_then t p u q (links_only ls) (links_only (s ∷ [])) h op.moves op.same w)
+      halts_more t p q a rest h refl (omega arith) (omega (arith, n, k, more)) (halts_then t p u q (links_only ls) (links_only (s ∷ [])) h op.moves op.same op.quiet w)
 
 pub none_linked : (t : Tables) (p : Pass) (node : Handle) (all : List Linked) → all ≡ [] → IsOf p t → Tidy p.values.knows → Fit p → HasRoom p → Opens t p p (links_only (map (stands node) all))
 none_linked t p node all e of tidy fit room = subst (λ z. Opens t p p (links_only (map (stands node) z))) (sym e) (record { moves = moves_none t p of tidy fit; same = refl; quiet = refl; room = room })
@@ -249,13 +251,13 @@ module _ (t : Tables) (p p1 p2 p3 : Pass) (par : Option Handle) (node : Handle) 
         let a : Made = followed (nodes_only ((node, par) ∷ (block, Some node) ∷ [])) (links_only (map (stands block) all)) in
         let same : length (map (stands block) all) ≡ length ((map (stands r.node) r.reads ++ []) ++ []) = ap length (ap (λ z. map (stands block) z) (sym rs) ∙ ap (λ z. map (stands z) r.reads) (sym n) ∙ sym (links_end (map (stands r.node) r.reads))) in
         halts_more t p p3 a (read_made par node r) h refl (omega arith) (omega (arith, same))
-        (halts_then t p p2 p3 (nodes_only ((node, par) ∷ (block, Some node) ∷ [])) (links_only (map (stands block) all)) h nodes_moved (two.same ∙ one.same) w)
+        (halts_then t p p2 p3 (nodes_only ((node, par) ∷ (block, Some node) ∷ [])) (links_only (map (stands block) all)) h nodes_moved (two.same ∙ one.same) (two.quiet ∙ one.quiet) w)
 
   -- the second node is wanting
   pub block_halt : (r : Reading) (h : Halt) → HaltsFor t p1 p2 (nodes_only ((r.node, Some node) ∷ [])) h → HaltsFor t p p2 (read_made par node r) h
   block_halt r h w =
       let a : Made = followed (nodes_only ((node, par) ∷ [])) (nodes_only ((r.node, Some node) ∷ [])) in
-      halts_more t p p2 a (read_made par node r) h refl (omega arith) (omega arith) (halts_then t p p1 p2 (nodes_only ((node, par) ∷ [])) (nodes_only ((r.node, Some node) ∷ [])) h one.moves one.same w)
+      halts_more t p p2 a (read_made par node r) h refl (omega arith) (omega arith) (halts_then t p p1 p2 (nodes_only ((node, par) ∷ [])) (nodes_only ((r.node, Some node) ∷ [])) h one.moves one.same one.quiet w)
 
 -- the first node is wanting
 pub step_halt : (t : Tables) (p q : Pass) (par : Option Handle) (node : Handle) (r : Reading) (h : Halt) → HaltsFor t p q (nodes_only ((node, par) ∷ [])) h → HaltsFor t p q (read_made par node r) h

@@ -37,7 +37,7 @@ use Rattle.psac_laws.proofs.Rules.{has_both, leaves}
 use Rattle.psac_trace.specs.Rights.{Tidy, Shares, Target, Ready, Kept as Stays}
 use Rattle.psac_trace.specs.Divided.{neither, writes_slot, sets_shared}
 use Rattle.psac_trace.specs.Fit.{Rooted, both_have}
-use Rattle.psac_trace.specs.Raising.{Raisable, Aged, Warns, Raises}
+use Rattle.psac_trace.specs.Raising.{Calm, Raisable, Aged, Warns, Raises}
 use Rattle.psac_trace.specs.Running.{WarnsAct}
 use Rattle.psac_trace.proofs.Claims.{times_append}
 use Rattle.psac_trace.proofs.Sums.{keeps_all}
@@ -335,6 +335,16 @@ module _ (w : Setting Handle) (olds : List Handle) (p l k : Pass) (ls rs rest : 
             let here = right_from S T p.values.knows m (open_at w n.st g.two env (values.right_of S T p.values.knows) n.base m r b).1 in
             raisable_right m o here.1 here.2 (n.may m o (target_narrow n.st (in_both g.one g.two) n.end.unwritten env m near (b.0, b.1, not_true (has b.0 (in_both g.one g.two)) (λ j. not_both (has_both b.0 g.one g.two j).1 b.2), b.3)));
       }
+
+  pub calm_joined : (l' k' j : Pass) → j.marks.knows ≡ marks.joined l'.marks.knows k'.marks.knows → Calm olds l l' → Calm olds k k' → Calm olds p j
+  calm_joined l' k' j jm a b none y =
+      let c = ap (λ (z : MarksView). times y z.marked) jm in
+      let d = times_append y l'.marks.knows.marked k'.marks.knows.marked in
+      let e = ap (λ (z : MarksView). times y z.marked) lm ∙ ap (times y) (left_marked p.marks.knows nodes) in
+      let f : times y k.marks.knows.marked ≡ 0 = ap (λ (z : MarksView). times y z.marked) km ∙ ap (times y) (right_marked p.marks.knows nodes) in
+      let g = a none y in
+      let h = b none y in
+      omega (arith, c, d, e, f, g, h)
 
   -- and joined, after each side has run
   module _ (l' k' j : Pass) (kl : Stays l.values.knows l'.values.knows) (kk : Stays k.values.knows k'.values.knows)

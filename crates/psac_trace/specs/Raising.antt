@@ -71,10 +71,14 @@ pub record Raises (olds : List Handle) (p q : Pass) (ws : List (Handle × Plain)
   pub stays : (m : Handle) (us : List ℕ) → Knows p.values.knows m us → ((x : Plain) → Member (m, x) ws → ⊥) → Knows q.values.knows m us
   pub owned : (m : Handle) (x : Plain) → Member (m, x) ws → Has q.values.knows m
 
--- nothing is said where a run stopped: its record is thrown away
+-- without old destinations nothing is marked
+abbrev pub Calm : List Handle → Pass → Pass → Type 0
+Calm olds p q = olds ≡ [] → (y : ℕ) → times y q.marks.knows.marked ≡ times y p.marks.knows.marked
+
+-- where a run stopped its record is thrown away, and of others' nodes no more is said
 abbrev pub RaisesBy : List Handle → Pass → Pass → Ended Kept → Type 0
 RaisesBy olds p q (Good k) = Raises olds p q (puts k)
-RaisesBy olds p q e = Unit {0}
+RaisesBy olds p q e = Calm olds p q
 
 -- the old destinations of a side that runs after another one on its pass
 abbrev pub olds_after : List Handle → Ended Kept → List Handle

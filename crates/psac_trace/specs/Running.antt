@@ -188,6 +188,7 @@ pub record Wants (t : Tables) (p q : Pass) (begun : Made) (why : Option Cause) :
   pub made : Made
   pub moves : Moves t p q made
   pub same : q.values.knows ≡ p.values.knows
+  pub quiet : q.marks.knows.marked ≡ p.marks.knows.marked
   pub mods : made.mods ≡ begun.mods
   pub most : AtMost q made begun
   pub full : IfSome why (IsFull p q)
