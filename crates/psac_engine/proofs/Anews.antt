@@ -27,7 +27,6 @@ use Rattle.psac_engine.specs.Settling.{Settles}
 use Rattle.psac_engine.specs.Tracing.{MainBegins, MainLeaves}
 use Rattle.psac_engine.specs.Running.{MayRun, HasHeap, Shows}
 use Rattle.psac_engine.proofs.Holding.{sees_value}
-use Rattle.psac_scope.specs.Scope.{FuncFits, FuncsFit}
 use Rattle.psac_engine.proofs.Begins.{begins, body_left}
 use Rattle.psac_engine.proofs.Outputs.{output_bound, has_outputs}
 use Rattle.psac_engine.specs.Outputs.{HasOutputs}
@@ -47,7 +46,7 @@ module _ (w : World) (g : Grid) (ok : IsGrid g) (checked : IsChecked w) (caps : 
   abbrev outs : ℕ
   outs = length w.main.dests
 
-  pub main_begins : FuncsFit w.program.funcs → FuncFits w.main → MainBegins g w.texts w.program.funcs w.main t p
+  pub main_begins : MainBegins g w.texts w.program.funcs w.main t p
   main_begins = begins w g ok checked caps age t p may.of may.all may.rested may.clear
 
   module _ (q : Pass) (e : Ended Kept) (l : MainLeaves g w.texts w.program.funcs w.main t p q e) where

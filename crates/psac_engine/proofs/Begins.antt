@@ -1,5 +1,5 @@
 -- A cleared pass at rest is what a run of main's body begins with.
-use Rattle.std.proofs.Common.{◌≡◌, ℕ, suc, ◌+◌, ◌<◌, ◌≤◌, ◌==◌, List, [], ◌∷◌, map, length, None, refl, ap, sym, ◌∙◌, subst, inl, arith}
+use Rattle.std.proofs.Common.{◌≡◌, ℕ, ◌+◌, ◌<◌, ◌==◌, List, [], map, length, None, ap, sym, subst, inl, arith}
 use Rattle.std.proofs.lemmas.Bool.Decides.{nat_tests}
 use Rattle.psac_ops.specs.declared.plain.Handle.{Handle}
 use Rattle.psac_slots.specs.Handles.{Member, once_below}
@@ -14,19 +14,13 @@ use Rattle.psac_fork.specs.declared.tables.Pass.{Pass}
 use Rattle.psac_fork.specs.declared.tables.Tables.{Tables}
 use Rattle.psac_fork.specs.Whole.{IsOf}
 use Rattle.psac_inputs.specs.Grid.{Grid, IsGrid}
-use Rattle.psac_ops.specs.Value.{ref}
-use Rattle.psac_syntax.specs.declared.program.Func.{Func}
-use Rattle.psac_model.specs.Names.{Env, bind}
-use Rattle.psac_scope.specs.Scope.{Fits, FuncFits, FuncsFit}
-use Rattle.psac_scope.proofs.Acts.{fewer}
-use Rattle.psac_scope.proofs.Lengths.{bind_length}
 use Rattle.psac_model.specs.declared.ends.Caps.{Caps}
 use Rattle.psac_model.specs.Fresh.{World}
 use Rattle.psac_laws.specs.Standing.{series_of, params}
 use Rattle.psac_laws.proofs.Places.{nat_is, nat_same}
 use Rattle.psac_laws.proofs.Rules.{Leaves, leaves}
 use Rattle.psac_laws.proofs.Opening.{IsChecked}
-use Rattle.psac_plain.specs.Opened.{at_slot, first_output, output_env, setting_over}
+use Rattle.psac_plain.specs.Opened.{first_output, output_env, setting_over}
 use Rattle.psac_trace.specs.Fit.{AtHand, Fit}
 use Rattle.psac_trace.specs.Rights.{Ready}
 use Rattle.psac_trace.specs.Running.{Begins}
@@ -52,17 +46,6 @@ low_slot c a h i =
   where
     below : (k n : ℕ) → 0 < once_below k n → k < n
     below k n h = grind (arith, nat_tests)
-
-outputs_length : (k : ℕ) (ds : List ℕ) (env : Env Handle) → length (output_env k ds env) ≤ length env + length ds
-outputs_length k [] env = omega arith
-outputs_length k (d ∷ ds) env =
-    let one = bind_length d (ref (at_slot k)) env in
-    let more = outputs_length (suc k) ds (bind d (ref (at_slot k)) env) in
-    omega (arith, one, more)
-
--- main's names are its outputs
-main_fits : (k : ℕ) (main : Func) → FuncFits main → Fits main.body (length (output_env k main.dests []))
-main_fits k main f = let n = outputs_length k main.dests [] in fewer main.body (length (output_env k main.dests [])) (length main.values + length main.dests) (omega (arith, n)) f
 
 module _ (w : World) (g : Grid) (ok : IsGrid g) (checked : IsChecked w) (caps : Caps) (age : ℕ) (t : Tables) (p : Pass) (of : IsOf p t) (rest : HasAll g (length w.main.dests) caps age p) (idle : IsRested p) (clear : IsCleared (fixed_slots g (length w.main.dests)) p) where
   abbrev outs : ℕ
@@ -117,13 +100,11 @@ module _ (w : World) (g : Grid) (ok : IsGrid g) (checked : IsChecked w) (caps : 
       (first_ready w g ok checked p.values.knows rest.fixed rest.grid)
 
   -- a cleared pass begins main's body
-  pub begins : FuncsFit w.program.funcs → FuncFits w.main → Begins (setting_over g w.texts outs) w.program.funcs [] t w.main.body (output_env (first_output g) w.main.dests []) None p
-  begins names fits =
+  pub begins : Begins (setting_over g w.texts outs) w.program.funcs [] t w.main.body (output_env (first_output g) w.main.dests []) None p
+  begins =
       record {
         of = of;
         checked = checked.each;
-        names = names;
-        fits = main_fits (first_output g) w.main fits;
         room = (idle.mods.over, idle.links.over, idle.nodes.over);
         tidy = first_tidy w g ok checked p.values.knows rest.fixed rest.grid clear.bare;
         fit = first_fit;

@@ -4,7 +4,6 @@ ghost use Rattle.psac_model.specs.declared.ends.Caps.{Caps};
 ghost use Rattle.psac_model.specs.Fresh.{World, nodes_of};
 ghost use Rattle.psac_model.specs.Work.{anew_work};
 ghost use Rattle.psac_laws.proofs.Opening.{IsChecked};
-ghost use Rattle.psac_scope.specs.Scope.{FuncFits, FuncsFit};
 ghost use Rattle.psac_plain.specs.Opened.{first_output};
 ghost use Rattle.psac_record.specs.Kept.{Kept};
 ghost use Rattle.psac_engine.specs.Commit.{IsCaps};
@@ -70,8 +69,6 @@ pub fn run_anew<Rt: Threads + Sync, G: Gate + Sync>(
     pass: Pass,
 ) -> (Result<(Work, Record), Answer>, Pass)
     requires checked { IsChecked (record { program = program.now; texts = texts.now; main = main.now }) }
-    requires names { FuncsFit program.now.funcs }
-    requires fits { FuncFits main.now }
     requires may { (caps : Caps) × (age : ℕ) × IsCaps caps × (age < 4294967295) × MayRun (length main.now.dests) grid.now caps age tables.now pass }
     requires few { first_output grid.now + length main.now.dests < 4294967295 }
     ensures of { IsOf result.1 tables.now }

@@ -19,7 +19,6 @@ pub mod Joining
 pub mod Fitting
 pub mod Moving
 pub mod Leaving
-pub mod Cells
 pub mod Looking
 pub mod Passes
 pub mod Reading

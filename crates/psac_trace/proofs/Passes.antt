@@ -79,8 +79,6 @@ use Rattle.psac_trace.proofs.Uniting.{calm_joined, warns_left, warns_right, rais
 use Rattle.psac_trace.proofs.Claims.{over_past, drawn_more}
 use Rattle.psac_trace.proofs.Growing.{keeps_on}
 use Rattle.psac_trace.proofs.Moving.{vain_mine, moves_none, moves_then, full_then, full_more, BesideValues, values_room, moves_looked, moves_wrote, moves_claimed, moves_vain, fit_left, fit_right, parent_left, parent_right, room_left, room_right, moves_joined, full_left, full_right, over_joined}
-use Rattle.psac_scope.specs.Scope.{Fits, ActFits}
-use Rattle.psac_scope.proofs.Acts.{fits_act}
 use Rattle.psac_ops.specs.Named.{same_handle}
 use Rattle.psac_cut.specs.CutShort.{Cuts, cuts, cut_short}
 use Rattle.psac_cut.specs.Based.{CutOn}
@@ -194,8 +192,6 @@ module _ (w : Setting Handle) (funcs : List Func) (room : ℕ) (deep : Tracing H
         record {
           of = b.of;
           checked = b.checked;
-          names = b.names;
-          fits = subst (λ z. Fits rest (length z)) (sym env_is) (subst (ActFits rest env) is b.fits).1;
           room = b.room;
           tidy = b.tidy;
           fit = b.fit;
@@ -253,8 +249,6 @@ module _ (w : Setting Handle) (funcs : List Func) (room : ℕ) (deep : Tracing H
           record {
             of = claim_moves.of;
             checked = b.checked;
-            names = b.names;
-            fits = subst (λ z. Fits rest (length z)) (sym env_is) ((subst (ActFits rest env) is b.fits).1 (ref m));
             room = claim_room;
             tidy = claim_moves.stays.tidy;
             fit = claim_moves.fit;
@@ -373,8 +367,6 @@ module _ (w : Setting Handle) (funcs : List Func) (room : ℕ) (deep : Tracing H
             record {
               of = put_moves.of;
               checked = b.checked;
-              names = b.names;
-              fits = subst (ActFits rest env) is b.fits;
               room = values_room t p1 p' rouse_moves.of tidy_on rouse_moves.fit be (roused_room t olds m ws p p1 b.tidy b.fit ro b.room) (ap (λ (z : ValueView). z.claims.over) wr ∙ (roused_room t olds m ws p p1 b.tidy b.fit ro b.room).0);
               tidy = put_moves.stays.tidy;
               fit = put_moves.fit;
@@ -464,7 +456,7 @@ module _ (w : Setting Handle) (funcs : List Func) (room : ℕ) (deep : Tracing H
 
     module _ (node : Handle) (p1 : Pass) (op : Opens t p p1 (nodes_only ((node, par) ∷ []))) (kn : Keeps p1.marks.knows node) where
       pub begins_inner : Begins w funcs olds t body inner (Some node) p1
-      begins_inner = record { of = op.moves.of; checked = b.checked; names = b.names; fits = b.fits.0; room = op.room; tidy = op.moves.stays.tidy; fit = op.moves.fit; parent = kn; needs = subst (Needs w body inner) (sym op.same) (needs_body w room deep first rest env v body inner b.needs); warns = inner_warns }
+      begins_inner = record { of = op.moves.of; checked = b.checked; room = op.room; tidy = op.moves.stays.tidy; fit = op.moves.fit; parent = kn; needs = subst (Needs w body inner) (sym op.same) (needs_body w room deep first rest env v body inner b.needs); warns = inner_warns }
         where
           inner_warns : Warns w olds body inner p1
           inner_warns = let n = b.warns in warns_inner w olds t rest env p p1 (nodes_only ((node, par) ∷ [])) body inner n.base n.st n.mid n.end n.meets n.goes b.tidy op.moves op.same (λ s i. absurd i) n.aged n.may
@@ -520,8 +512,6 @@ module _ (w : Setting Handle) (funcs : List Func) (room : ℕ) (deep : Tracing H
                 record {
                   of = l.moves.of;
                   checked = b.checked;
-                  names = b.names;
-                  fits = b.fits.1;
                   room = r;
                   tidy = l.moves.stays.tidy;
                   fit = l.moves.fit;
@@ -594,7 +584,7 @@ module _ (w : Setting Handle) (funcs : List Func) (room : ℕ) (deep : Tracing H
           seen_in base r.node r.reads (subst (EachOf (λ m x. held base m ≡ Some x)) (sym began.reads) saw) s (subst (Member s) (append_none (ls ++ []) ∙ append_none ls) i)
 
       pub begins_block : Began level number env reads r → Begins w funcs olds t body inner (Some r.node) p1
-      begins_block began = record { of = op.moves.of; checked = b.checked; names = b.names; fits = b.fits.1; room = op.room; tidy = op.moves.stays.tidy; fit = op.moves.fit; parent = kr; needs = subst (Needs w body inner) (sym op.same) (needs_block w room deep first rest env v number reads body inner b.needs); warns = block_warns }
+      begins_block began = record { of = op.moves.of; checked = b.checked; room = op.room; tidy = op.moves.stays.tidy; fit = op.moves.fit; parent = kr; needs = subst (Needs w body inner) (sym op.same) (needs_block w room deep first rest env v number reads body inner b.needs); warns = block_warns }
         where
           block_warns : Warns w olds body inner p1
           block_warns = let n = b.warns in warns_inner w olds t rest env p p1 (read_made par node r) body inner n.base n.st n.mid n.end n.meets n.goes b.tidy op.moves op.same (read_linked began n.base n.saw) n.aged n.may
@@ -660,8 +650,6 @@ module _ (w : Setting Handle) (funcs : List Func) (room : ℕ) (deep : Tracing H
                 record {
                   of = l.moves.of;
                   checked = b.checked;
-                  names = b.names;
-                  fits = b.fits.2;
                   room = ro;
                   tidy = l.moves.stays.tidy;
                   fit = l.moves.fit;
@@ -723,7 +711,7 @@ module _ (w : Setting Handle) (funcs : List Func) (room : ℕ) (deep : Tracing H
 
     module _ (node : Handle) (p1 : Pass) (op : Opens t p p1 (nodes_only ((node, par) ∷ []))) (kn : Keeps p1.marks.knows node) where
       pub begins_par : BeginsAct w funcs olds t (Sides ls rs) rest env (Some node) p1
-      begins_par = record { of = op.moves.of; checked = b.checked; names = b.names; fits = b.fits; room = op.room; tidy = op.moves.stays.tidy; fit = op.moves.fit; parent = kn; sights = tt; needs = subst (NeedsAct w (Sides ls rs) rest env) (sym op.same) b.needs; warns = warns_on olds t rest env p p1 (nodes_only ((node, par) ∷ [])) ls rs w op refl b.warns }
+      begins_par = record { of = op.moves.of; checked = b.checked; room = op.room; tidy = op.moves.stays.tidy; fit = op.moves.fit; parent = kn; sights = tt; needs = subst (NeedsAct w (Sides ls rs) rest env) (sym op.same) b.needs; warns = warns_on olds t rest env p p1 (nodes_only ((node, par) ∷ [])) ls rs w op refl b.warns }
 
       module _ (u : Pass) (e : Ended Kept) (l : LeavesBoth w room deep first olds t ls rs rest env (Some node) p1 u e) where
         par_kept : Stays v u.values.knows
@@ -780,8 +768,6 @@ module _ (w : Setting Handle) (funcs : List Func) (room : ℕ) (deep : Tracing H
                 record {
                   of = l.moves.of;
                   checked = b.checked;
-                  names = b.names;
-                  fits = b.fits.2;
                   room = r;
                   tidy = l.moves.stays.tidy;
                   fit = l.moves.fit;
@@ -880,7 +866,7 @@ module _ (w : Setting Handle) (funcs : List Func) (room : ℕ) (deep : Tracing H
 
     -- on one pass
     pub begins_first : Begins w funcs olds t ls env (Some node) p1
-    begins_first = record { of = op.moves.of; checked = b.checked; names = b.names; fits = b.fits.0; room = op.room; tidy = tidy_here; fit = op.moves.fit; parent = kn; needs = needs_first w room deep first rest env p1.values.knows ls rs needs_here; warns = first_warns }
+    begins_first = record { of = op.moves.of; checked = b.checked; room = op.room; tidy = tidy_here; fit = op.moves.fit; parent = kn; needs = needs_first w room deep first rest env p1.values.knows ls rs needs_here; warns = first_warns }
 
     pub leaves_out : (u : Pass) (k : Kept) (r : Result Record Halt) → is_other (ended_of k r) ≡ true → Leaves w deep first olds t ls env (Some node) p1 u (ended_of k r) → LeavesBoth w room deep first olds t ls rs rest env par p u (ended_of (P node k E) r)
     leaves_out u k (Ok r) h l = absurd cc
@@ -953,8 +939,6 @@ module _ (w : Setting Handle) (funcs : List Func) (room : ℕ) (deep : Tracing H
           record {
             of = l.moves.of;
             checked = b.checked;
-            names = b.names;
-            fits = b.fits.1;
             room = room_first one h l.room;
             tidy = l.moves.stays.tidy;
             fit = l.moves.fit;
@@ -996,8 +980,6 @@ module _ (w : Setting Handle) (funcs : List Func) (room : ℕ) (deep : Tracing H
           record {
             of = of.0;
             checked = b.checked;
-            names = b.names;
-            fits = b.fits.0;
             room = room_left t p1 l k ls rs env op.moves.fit lv kv lr kr lm km op.room;
             tidy = subst Tidy (sym lv) (left_tidy (neither ls rs env) (writes_slot rs env) p1.values.knows tidy_here);
             fit = fit_left t p1 l k ls rs env op.moves.fit lv kv lr kr lm km;
@@ -1011,8 +993,6 @@ module _ (w : Setting Handle) (funcs : List Func) (room : ℕ) (deep : Tracing H
           record {
             of = of.1;
             checked = b.checked;
-            names = b.names;
-            fits = b.fits.1;
             room = room_right t p1 l k ls rs env op.moves.fit lv kv lr kr lm km;
             tidy = subst Tidy (sym kv) (right_tidy (neither ls rs env) (writes_slot rs env) p1.values.knows tidy_here);
             fit = fit_right t p1 l k ls rs env op.moves.fit lv kv lr kr lm km;
@@ -1160,8 +1140,6 @@ module _ (w : Setting Handle) (funcs : List Func) (olds : List Handle) (t : Tabl
             record {
               of = asked_moves.of;
               checked = b.checked;
-              names = b.names;
-              fits = fits_act (listed w) w funcs b.names s rest env asks.0 a (subst (λ x. Fits x (length env)) (sym is) b.fits) (asked asks.0 asks.1);
               room = asked_room;
               tidy = asked_moves.stays.tidy;
               fit = asked_moves.fit;

@@ -12,12 +12,9 @@ use Rattle.psac_values.specs.declared.view.ValueView.{ValueView}
 use Rattle.psac_model.specs.declared.ends.FaultKind.{FaultKind}
 use Rattle.psac_model.specs.Names.{Env}
 use Rattle.psac_model.specs.Expression.{Setting, value_of}
-use Rattle.psac_model.specs.Run.{Action, Bind, Make, Put, Body, Block, Sides, target, with_reads}
+use Rattle.psac_model.specs.Run.{Action, Block, target}
 use Rattle.psac_plain.specs.declared.ask.Seen.{Seen}
-use Rattle.psac_plain.specs.Slots.{cell_place, env_of}
-use Rattle.psac_plain.specs.Running.{reads_view}
-use Rattle.psac_trace.specs.declared.ask.Action.{Action as Asked}
-use Rattle.psac_trace.specs.declared.ask.Action.TheVariants as asked
+use Rattle.psac_plain.specs.Slots.{cell_place}
 use Rattle.psac_trace.specs.declared.ground.Ground.{Ground}
 use Rattle.psac_trace.specs.Rights.{Heap, held, Sees}
 
@@ -70,16 +67,6 @@ looked_by n v = record v { looks = v.looks + n }
 -- nothing but the number of looks has changed
 abbrev pub Looked : ValueView → ValueView → Type 0
 Looked v u = (n : ℕ) × (u ≡ record v { looks = n })
-
--- what is asked for under an environment
-abbrev pub action_view : Env Handle → Asked → Action Handle
-action_view env (asked.Bind x v) = Bind x (plain_value v)
-action_view env (asked.Make d) = Make d
-action_view env (asked.Put m v) = Put m (plain_value v)
-action_view env (asked.Branch body) = Body body.now env
-action_view env (asked.Called body inner) = Body body.now (env_of inner)
-action_view env (asked.Block block reads items body) = Block block (reads_view reads.items) body.now (with_reads env items.now (reads_view reads.items))
-action_view env (asked.Sides left right) = Sides left.now right.now
 
 -- how often was looked for what a statement asks for: once at each read
 abbrev pub looks_for : Action Handle → ℕ

@@ -1,5 +1,5 @@
 -- What the calls of the tracing run need and leave.
-use Rattle.std.specs.Prelude.{◌≡◌, ℕ, ◌+◌, ◌≤◌, List, [], ◌∷◌, ◌++◌, length, map, true, Option, Some, None, IfSome}
+use Rattle.std.specs.Prelude.{◌≡◌, ℕ, ◌+◌, ◌≤◌, List, [], ◌∷◌, ◌++◌, map, true, Option, Some, None, IfSome}
 use Rattle.psac_ops.specs.declared.plain.Handle.{Handle}
 use Rattle.psac_ops.specs.Value.{ref}
 use Rattle.psac_syntax.specs.declared.program.Stmt.{Stmt}
@@ -17,7 +17,6 @@ use Rattle.psac_model.specs.Expression.{Setting}
 use Rattle.psac_model.specs.Run.{Action, Bind, Make, Put, Body, Block, Sides, first_stop}
 use Rattle.psac_model.specs.Series.{has, all_in, without}
 use Rattle.psac_laws.specs.Standing.{Standing, is_new, with_value, with_dest, settled, in_both, series, left_by, series_of}
-use Rattle.psac_scope.specs.Scope.{Fits, FuncsFit, ActFits}
 use Rattle.psac_traced.specs.Rec as rec
 use Rattle.psac_traced.specs.Rec.{Rec, writes}
 use Rattle.psac_traced.specs.Traced.{Traces as Tracing, acts}
@@ -60,13 +59,10 @@ abbrev pub FullBy : Pass → Pass → Ended Kept → Type 0
 FullBy p q (Other k (Some c)) = IsFull p q c
 FullBy p q e = Unit {0}
 
--- what a run of statements begins with: also, that at most 24 names come into scope, and that what it makes stands below a node
--- that is kept
+-- what a run of statements begins with: also, that what it makes stands below a node that is kept
 pub record Begins (w : Setting Handle) (funcs : List Func) (olds : List Handle) (t : Tables) (body : List Stmt) (env : Env Handle) (par : Option Handle) (p : Pass) : Type 0 where
   pub of : IsOf p t
   pub checked : AreChecked funcs
-  pub names : FuncsFit funcs
-  pub fits : Fits body (length env)
   pub room : HasRoom p
   pub tidy : Tidy p.values.knows
   pub fit : Fit p
@@ -148,8 +144,6 @@ Sights a v = Unit {0}
 pub record BeginsAct (w : Setting Handle) (funcs : List Func) (olds : List Handle) (t : Tables) (a : Action Handle) (rest : List Stmt) (env : Env Handle) (par : Option Handle) (p : Pass) : Type 0 where
   pub of : IsOf p t
   pub checked : AreChecked funcs
-  pub names : FuncsFit funcs
-  pub fits : ActFits rest env a
   pub room : HasRoom p
   pub tidy : Tidy p.values.knows
   pub fit : Fit p

@@ -3,23 +3,19 @@ ghost use Rattle.std.specs.Prelude.{◌≡◌, ◌+◌, length, map, IfOk, OnErr
 ghost use Rattle.psac_ops.specs.declared.plain.Handle.{Handle};
 ghost use Rattle.psac_ops.specs.Value.{Value};
 ghost use Rattle.psac_ops.specs.Named.{value_of as plain_value, values_of};
-ghost use Rattle.std.specs.Option.{option_copied};
 ghost use Rattle.psac_syntax.specs.declared.program.Stmt.{out-Stmt};
 ghost use Rattle.psac_model.specs.Expression.{in_order};
 ghost use Rattle.psac_model.specs.Names.{Env as Names};
 ghost use Rattle.psac_model.specs.Run.{read_of, func_named, call_of, action_of};
 ghost use Rattle.psac_plain.specs.Slots.{Gives, env_of, setting_by};
-ghost use Rattle.psac_plain.specs.Running.{reads_view};
-ghost use Rattle.psac_scope.specs.Scope.{FuncsFit};
+ghost use Rattle.psac_plain.specs.Running.{reads_view, action_view};
 ghost use Rattle.psac_traced.specs.Traced.{listed};
 ghost use Rattle.psac_trace.specs.Rights.{Heap, Sees};
-ghost use Rattle.psac_trace.specs.Asking.{AllSought, Readable, source, sources_in, AllSeen, SeenFirst, looked_by, Looked, looks_for, action_view, setting_on};
+ghost use Rattle.psac_trace.specs.Asking.{AllSought, Readable, source, sources_in, AllSeen, SeenFirst, looked_by, Looked, looks_for, setting_on};
 
-use crate::env::{Env, params_to};
 use crate::ground::Ground;
-use psac_model::FaultKind;
 use psac_ops::{Handle, Plain, TextId, from_words};
-use psac_plain::ask::{Seen, bool_of, destination_of, destinations_of, target_of};
+use psac_plain::ask::{Action, Seen, bool_of, called, destination_of, destinations_of, target_of};
 use psac_plain::binding::Binding;
 use psac_plain::halt::Halt;
 use psac_plain::opening::Opening;
@@ -27,21 +23,6 @@ use psac_plain::value::{value, values as values_in};
 use psac_syntax::{Func, ReadItem, Stmt};
 use psac_values::{ValuePass, Values};
 use std::alloc::Global;
-
-/// What a statement asks for, once its expressions are evaluated.
-#[derive(Drop)]
-pub enum Action<'a> {
-    Bind(u16, Plain),
-    Make(u16),
-    Put(Handle, Plain),
-    /// The chosen branch, under the environment of its statement.
-    Branch(&'a [Stmt]),
-    /// A function's body, under its parameters alone.
-    Called(&'a [Stmt], Env),
-    /// A read block, what it read, and the names that it binds.
-    Block(u32, Vec<Seen>, &'a [ReadItem], &'a [Stmt]),
-    Sides(&'a [Stmt], &'a [Stmt]),
-}
 
 // The modifiable that a read names.
 fn source_of(
@@ -132,37 +113,18 @@ fn reads_of(
     }
 }
 
-fn func_of(funcs: &[Func], name: u16) -> Option<&Func>
-    ensures { option_copied result ≡ func_named name funcs.now }
-{
-    for f in funcs {
-        if f.name == name {
-            return Some(f);
-        }
-    }
-    None
-}
-
-// What a call runs: the function's body, under its parameters alone.
-fn called<'a>(
+// What a call runs, which reads nothing by itself.
+fn called_by<'a>(
+    alloc: Global,
     funcs: &'a [Func],
     func: u16,
     values: &[Plain],
     dests: &[Plain],
 ) -> Result<Action<'a>, Halt>
-    requires names { FuncsFit funcs.now }
     ensures called { (env : Names Handle) → Gives (action_view env) result (call_of (func_named func funcs.now) (values_of values.now) (values_of dests.now)) }
     ensures looks { (env : Names Handle) → IfOk result (λ a. looks_for (action_view env a) ≡ 0) }
 {
-    match func_of(funcs, func) {
-        Some(f) => {
-            let mut env = Env::new();
-            params_to(&mut env, f.values.as_slice(), values)?;
-            params_to(&mut env, f.dests.as_slice(), dests)?;
-            Ok(Action::Called(f.body.as_slice(), env))
-        }
-        None => Err(Halt::Fault(FaultKind::Kind)),
-    }
+    called(alloc, funcs, func, values, dests)
 }
 
 /// What a statement asks for, once its expressions are evaluated.
@@ -177,7 +139,6 @@ pub fn asked<'a>(
     pass: &mut ValuePass,
     s: &'a Stmt,
 ) -> Result<Action<'a>, Halt>
-    requires names { FuncsFit funcs.now }
     requires table { pass.old.table ≡ values.now }
     requires readable { (heap : Heap) × Readable (setting_on ground.now texts.now) (env_of env.now) pass.old.knows heap (out-Stmt s.now) }
     ensures table { pass.new.table ≡ pass.old.table }
@@ -229,7 +190,7 @@ pub fn asked<'a>(
         } => {
             let vs = values_in(alloc, &opening, env, given.as_slice())?;
             let ds = destinations_of(alloc, env, dests.as_slice())?;
-            called(funcs, *func, &vs, &ds)
+            called_by(alloc, funcs, *func, &vs, &ds)
         }
     }
 }

@@ -3,7 +3,6 @@
 
 pub mod ask;
 pub mod divide;
-pub mod env;
 pub mod ground;
 pub mod halt;
 pub mod nodes;

@@ -1,5 +1,10 @@
 //! Parts put round the records of what was run.
-ghost use Rattle.std.specs.Prelude.{◌≡◌};
+ghost use Rattle.std.specs.Prelude.{◌≡◌, IfOk};
+ghost use Rattle.psac_ops.specs.Named.{value_of as plain_value};
+ghost use Rattle.psac_model.specs.Names.{bind};
+ghost use Rattle.psac_model.specs.Run.{with_reads};
+ghost use Rattle.psac_plain.specs.Slots.{env_of};
+ghost use Rattle.psac_plain.specs.Running.{reads_view};
 ghost use Rattle.psac_record.specs.Kept.{Kept, E, A, W, S, P, R};
 ghost use Rattle.psac_record.specs.Shown.{kept_of};
 ghost use Rattle.psac_trace.specs.Raising.{olds_after};
@@ -7,9 +12,12 @@ ghost use Rattle.psac_trace.specs.Told.{did, ended_of, both_ended, then_ended, F
 
 use crate::halt::Halt;
 use psac_ops::{Handle, Plain};
+use psac_plain::ask::Seen;
+use psac_plain::binding::{Binding, bind_seen, bind_to};
 use psac_plain::halt::Halt as Stop;
 use psac_record::{Reading, Record};
-use std::alloc::Global;
+use psac_syntax::ReadItem;
+use std::alloc::{AllocError, Global};
 
 /// The record of both sides, or the halt that goes first.
 pub fn paired(
@@ -133,4 +141,32 @@ pub fn in_block(alloc: Global, reading: Reading, body: Result<Record, Halt>) -> 
         },
         Err(h) => Err(h),
     }
+}
+
+/// The environment with a name bound.
+pub fn bound_in(
+    alloc: Global,
+    env: &[Binding],
+    name: u16,
+    value: Plain,
+) -> Result<Vec<Binding>, AllocError>
+    ensures { IfOk result (λ more. env_of more.items ≡ bind name (plain_value value) (env_of env.now)) }
+{
+    let mut more = Vec::from_slice(alloc, env)?;
+    bind_to(&mut more, name, value)?;
+    Ok(more)
+}
+
+/// The environment with the names of reads bound.
+pub fn entered(
+    alloc: Global,
+    env: &[Binding],
+    items: &[ReadItem],
+    seen: &[Seen],
+) -> Result<Vec<Binding>, AllocError>
+    ensures { IfOk result (λ more. env_of more.items ≡ with_reads (env_of env.now) items.now (reads_view seen.now)) }
+{
+    let mut more = Vec::from_slice(alloc, env)?;
+    bind_seen(&mut more, items, seen)?;
+    Ok(more)
 }

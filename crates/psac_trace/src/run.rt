@@ -2,30 +2,30 @@
 ghost use Rattle.std.specs.Prelude.{◌≡◌, ◌+◌, ◌-◌, ◌<◌, Result, Option, Some, None, Ok, Err};
 ghost use Rattle.std.specs.Thread.{IsSync};
 ghost use Rattle.psac_plain.specs.Slots.{env_of};
-ghost use Rattle.psac_plain.specs.Running.{reads_view};
+ghost use Rattle.psac_plain.specs.Running.{action_view, reads_view};
 ghost use Rattle.psac_traced.specs.Traced.{traced};
 ghost use Rattle.psac_cut.specs.CutShort.{cut_short};
 ghost use Rattle.psac_model.specs.Fresh.{levels};
 ghost use Rattle.psac_model.specs.Run.{Body, Block, Sides, with_reads};
 ghost use Rattle.psac_record.specs.Kept.{Kept, E};
-ghost use Rattle.psac_trace.specs.Asking.{action_view, setting_on};
+ghost use Rattle.psac_trace.specs.Asking.{setting_on};
 ghost use Rattle.psac_trace.specs.Told.{ended_of};
 ghost use Rattle.psac_trace.specs.Running.{Begins, Leaves, BeginsAct, LeavesAct, LeavesBoth, BeginsAfter, LeavesAfter};
 
-use crate::ask::{Action, asked};
+use crate::ask::asked;
 use crate::divide::fork_for;
-use crate::env::{bound_in, entered};
 use crate::ground::Ground;
 use crate::halt::Halt;
 use crate::nodes::{opened, stepped};
 use crate::put::{
-    after_made, after_step, after_wrote, in_block, paired, ran_out, still_old, stopped,
+    after_made, after_step, after_wrote, bound_in, entered, in_block, paired, ran_out, still_old,
+    stopped,
 };
 use crate::warn::warned;
 use psac_fork::{Crew, Gate, Pass, Tables, both};
 use psac_model::{CapKind, FaultKind};
 use psac_ops::{Handle, Plain, TextId, to_words};
-use psac_plain::ask::{Seen, line};
+use psac_plain::ask::{Action, Seen, line};
 use psac_plain::binding::Binding;
 use psac_record::Record;
 use psac_syntax::{Func, ReadItem, Stmt};
@@ -114,46 +114,24 @@ fn act_on<Rt: Threads + Sync, G: Gate + Sync>(
     ensures { (k : Kept) × LeavesAct (setting_on ground.now texts.now) (levels - level) (traced (setting_on ground.now texts.now) funcs.now (levels - level)) (cut_short (setting_on ground.now texts.now) funcs.now (levels - level)) olds.now tables.now (action_view (env_of env.now) action.entry) rest.now (env_of env.now) parent pass result.1 (ended_of k result.0) }
 {
     match action {
-        Action::Bind(name, value) => {
-            let more = bound_in(env, name, value);
-            run_block(
-                rt,
-                alloc,
-                crew,
-                gate,
-                tables,
-                ground,
-                texts,
-                funcs,
-                olds,
-                level,
-                rest,
-                more.as_slice(),
-                parent,
-                pass,
-            )
-        }
+        Action::Bind(name, value) => match bound_in(alloc, env, name, value) {
+            Ok(more) => run_block(
+                rt, alloc, crew, gate, tables, ground, texts, funcs, olds, level, rest, &more,
+                parent, pass,
+            ),
+            Err(_) => (Err(Halt::NoMemory), pass),
+        },
         Action::Make(name) => match tables.values.claim(&mut pass.values) {
-            Ok(m) => {
-                let more = bound_in(env, name, Plain::Ref(m));
-                let (r, pass) = run_block(
-                    rt,
-                    alloc,
-                    crew,
-                    gate,
-                    tables,
-                    ground,
-                    texts,
-                    funcs,
-                    olds,
-                    level,
-                    rest,
-                    more.as_slice(),
-                    parent,
-                    pass,
-                );
-                (after_made(alloc, m, r), pass)
-            }
+            Ok(m) => match bound_in(alloc, env, name, Plain::Ref(m)) {
+                Ok(more) => {
+                    let (r, pass) = run_block(
+                        rt, alloc, crew, gate, tables, ground, texts, funcs, olds, level, rest,
+                        &more, parent, pass,
+                    );
+                    (after_made(alloc, m, r), pass)
+                }
+                Err(_) => (Err(Halt::NoMemory), pass),
+            },
             Err(full) => (Err(Halt::Full(CapKind::Mods, full)), pass),
         },
         Action::Put(m, v) => {
@@ -171,22 +149,8 @@ fn act_on<Rt: Threads + Sync, G: Gate + Sync>(
             parent, pass,
         ),
         Action::Called(body, inner) => run_inner(
-            rt,
-            alloc,
-            crew,
-            gate,
-            tables,
-            ground,
-            texts,
-            funcs,
-            olds,
-            level,
-            body,
-            inner.as_slice(),
-            rest,
-            env,
-            parent,
-            pass,
+            rt, alloc, crew, gate, tables, ground, texts, funcs, olds, level, body, &inner, rest,
+            env, parent, pass,
         ),
         Action::Block(number, seen, items, body) => run_read(
             rt, alloc, crew, gate, tables, ground, texts, funcs, olds, level, number, &seen, items,
@@ -277,30 +241,32 @@ fn run_read<Rt: Threads + Sync, G: Gate + Sync>(
 {
     let (begun, pass) = opened(alloc, tables, parent, level, number, env, seen, pass);
     match begun {
-        Ok((node, reading)) => {
-            let inner = entered(env, items, seen);
-            let (t, pass) = run_block(
-                rt,
-                alloc,
-                crew,
-                gate,
-                tables,
-                ground,
-                texts,
-                funcs,
-                olds,
-                level,
-                body,
-                inner.as_slice(),
-                Some(reading.node),
-                pass,
-            );
-            let t = in_block(alloc, reading, t);
-            go_on(
-                rt, alloc, crew, gate, tables, ground, texts, funcs, olds, level, node, t, rest,
-                env, pass,
-            )
-        }
+        Ok((node, reading)) => match entered(alloc, env, items, seen) {
+            Ok(inner) => {
+                let (t, pass) = run_block(
+                    rt,
+                    alloc,
+                    crew,
+                    gate,
+                    tables,
+                    ground,
+                    texts,
+                    funcs,
+                    olds,
+                    level,
+                    body,
+                    &inner,
+                    Some(reading.node),
+                    pass,
+                );
+                let t = in_block(alloc, reading, t);
+                go_on(
+                    rt, alloc, crew, gate, tables, ground, texts, funcs, olds, level, node, t,
+                    rest, env, pass,
+                )
+            }
+            Err(_) => (Err(Halt::NoMemory), pass),
+        },
         Err(halt) => (Err(halt), pass),
     }
 }

@@ -14,7 +14,7 @@ run_main-told-requires-clause-begins g c κs lives =
     let w : World = record { program = c.args.program.now; texts = c.args.texts.now; main = c.args.main.now } in
     let m = c.requires.may in
     begins_call c.args.grid.now c.args.texts.now c.as_slice-funcs.result.now c.args.program.now.funcs c.args.main.now c.args.tables.now c.args.pass c.as_slice-funcs.ensures
-    (main_begins w c.args.grid.now c.rows.ensures.sound c.requires.checked m.0 m.1 c.args.tables.now c.args.pass m.4 c.requires.names c.requires.fits)
+    (main_begins w c.args.grid.now c.rows.ensures.sound c.requires.checked m.0 m.1 c.args.tables.now c.args.pass m.4)
 
 pub settled-pass-requires-clause-of : goal.settled-pass-requires-clause-of
 settled-pass-requires-clause-of g c = c.run_main-told.ensures.1.moves.of

@@ -1,7 +1,6 @@
 use Rattle.std.proofs.Common.{◌≡◌, sym, subst, length, Some, arith}
 use Rattle.psac_model.specs.Fresh.{World, main_of}
 use Rattle.psac_laws.proofs.Checked.{is_checked}
-use Rattle.psac_numbers.proofs.Scopes.{parsed_fits, parsed_main_fits}
 use Rattle.psac_engine.specs.Running.{MayRun, HasRun}
 use Rattle.psac_engine.proofs.Worlds.{world_by, few_dests}
 use Rattle.psac_engine.proofs.anew.run_program.Goals as goal
@@ -10,12 +9,6 @@ pub run_anew-requires-clause-checked : goal.run_anew-requires-clause-checked
 run_anew-requires-clause-checked g c κs lives =
     let w : World = record { program = c.program-program.result.now; texts = c.args.texts.now; main = c.in-Some.main.now } in
     is_checked w c.program-program.ensures.met (sym c.in-Some.ensures)
-
-pub run_anew-requires-clause-names : goal.run_anew-requires-clause-names
-run_anew-requires-clause-names g c κs lives = parsed_fits c.program-program.result.now c.program-program.ensures.parsed
-
-pub run_anew-requires-clause-fits : goal.run_anew-requires-clause-fits
-run_anew-requires-clause-fits g c κs lives = parsed_main_fits c.program-program.result.now c.in-Some.main.now c.program-program.ensures.parsed (sym c.in-Some.ensures)
 
 pub run_anew-requires-clause-may : goal.run_anew-requires-clause-may
 run_anew-requires-clause-may g c κs lives =

@@ -24,9 +24,9 @@ returns-in-Err-clause-asked c = λ heap s.
 
 pub returns-in_ok-ds-in-Call-clause-asked : goal.returns-in_ok-ds-in-Call-clause-asked
 returns-in_ok-ds-in-Call-clause-asked c = λ heap s.
-    let e = c.called.ensures.called (env_of c.args.env.now) in
+    let e = c.called_by.ensures.called (env_of c.args.env.now) in
     search (rules, the_lemmas, e)
 
 pub returns-in_ok-ds-in-Call-clause-looks : goal.returns-in_ok-ds-in-Call-clause-looks
 returns-in_ok-ds-in-Call-clause-looks c =
-    no_looks (env_of c.args.env.now) c.args.pass.now.knows.looks c.called.result (c.called.ensures.looks (env_of c.args.env.now))
+    no_looks (env_of c.args.env.now) c.args.pass.now.knows.looks c.called_by.result (c.called_by.ensures.looks (env_of c.args.env.now))

@@ -7,7 +7,7 @@ use Rattle.psac_model.specs.Run.{Action, Body, Block, with_reads}
 use Rattle.psac_plain.specs.declared.ask.Seen.{Seen}
 use Rattle.psac_plain.specs.declared.binding.Binding.{Binding}
 use Rattle.psac_plain.specs.Slots.{env_of}
-use Rattle.psac_plain.specs.Running.{reads_view}
+use Rattle.psac_plain.specs.Running.{action_view, reads_view}
 use Rattle.psac_traced.specs.Traced.{traced}
 use Rattle.psac_traced.proofs.Holds.{traced_holds}
 use Rattle.psac_cut.specs.CutShort.{cut_short}
@@ -15,11 +15,11 @@ use Rattle.psac_cut.proofs.Cutting.{cut_none, cut_whole}
 use Rattle.psac_record.specs.declared.parts.Reading.{Reading}
 use Rattle.psac_record.specs.Kept.{E, A, W, S, P, R}
 use Rattle.psac_record.specs.Shown.{kept_of}
-use Rattle.psac_trace.specs.Asking.{action_view, setting_on}
+use Rattle.psac_trace.specs.Asking.{setting_on}
 use Rattle.psac_trace.specs.declared.halt.Halt.{Halt}
 use Rattle.psac_trace.specs.Told.{did, ended_of, halted}
 use Rattle.psac_trace.specs.Running.{Begins, Leaves, BeginsAct, LeavesAct, LeavesAfter, Opens, HaltsFor, nodes_only, read_made, Began}
-use Rattle.psac_trace.proofs.Passes.{begins_bind, leaves_bind, begins_make, leaves_make_on, leaves_full, put_may, put_mine, begins_put, leaves_put_on, begins_any, after_halt, leaves_no_inner, begins_inner, begins_after_inner, leaves_inner, leaves_no_block, begins_block, begins_after_block, leaves_block, leaves_no_par, begins_par, begins_after_par, leaves_par, leaves_no_sides, begins_first, leaves_out, begins_second, leaves_second, begins_left, begins_right, join_of, join_sides, leaves_joined, leaves_end, whole_is, leaves_deep, asks, leaves_stop, begins_act, leaves_act_on}
+use Rattle.psac_trace.proofs.Passes.{leaves_unbound, begins_bind, leaves_bind, leaves_unnamed, begins_make, leaves_make_on, leaves_full, put_may, put_mine, begins_put, leaves_put_on, begins_any, after_halt, leaves_no_inner, begins_inner, begins_after_inner, leaves_inner, leaves_no_block, leaves_unentered, begins_block, begins_after_block, leaves_block, leaves_no_par, begins_par, begins_after_par, leaves_par, leaves_no_sides, begins_first, leaves_out, begins_second, leaves_second, begins_left, begins_right, join_of, join_sides, leaves_joined, leaves_end, whole_is, leaves_deep, asks, leaves_stop, begins_act, leaves_act_on}
 use Rattle.psac_trace.proofs.run.+run.Goals as goal
 
 pub act_on-run_block-requires-after_bounds : goal.act_on-run_block-requires-after_bounds
@@ -39,47 +39,7 @@ act_on-run_block-requires-after_bounds g n c κs within =
     let par = c.args.parent in
     let p = c.args.pass in
     let a = action_view env c.args.action in
-    begins_bind w funcs room deep first none short holding olds t a rest env par p c.in-Bind.name (plain_value c.in-Bind.value) (env_of c.as_slice.result.now) (ap (action_view env) c.in-Bind.is) (ap env_of c.as_slice.ensures ∙ c.bound_in-more.ensures) c.requires
-
-pub act_on-returns-in-Bind : goal.act_on-returns-in-Bind
-act_on-returns-in-Bind g n c =
-    let w = setting_on c.args.ground.now c.args.texts.now in
-    let t = c.args.tables.now in
-    let funcs = c.args.funcs.now in
-    let olds = c.args.olds.now in
-    let room = levels - c.args.level in
-    let deep = traced w funcs room in
-    let first = cut_short w funcs room in
-    let none = cut_none w funcs room in
-    let short = cut_whole w funcs room in
-    let holding = traced_holds w funcs room in
-    let rest = c.args.rest.now in
-    let env = env_of c.args.env.now in
-    let par = c.args.parent in
-    let p = c.args.pass in
-    let a = action_view env c.args.action in
-    let k = c.run_block.ensures in
-    (k.0, leaves_bind w funcs room deep first none short holding olds t a rest env par p c.in-Bind.name (plain_value c.in-Bind.value) (env_of c.as_slice.result.now) (ap (action_view env) c.in-Bind.is) (ap env_of c.as_slice.ensures ∙ c.bound_in-more.ensures) c.run_block.result.1 (ended_of k.0 c.run_block.result.0) k.1)
-
-pub act_on-run_block-r-requires-after_bounds : goal.act_on-run_block-r-requires-after_bounds
-act_on-run_block-r-requires-after_bounds g n c κs within =
-    let w = setting_on c.args.ground.now c.args.texts.now in
-    let t = c.args.tables.now in
-    let funcs = c.args.funcs.now in
-    let olds = c.args.olds.now in
-    let room = levels - c.args.level in
-    let deep = traced w funcs room in
-    let first = cut_short w funcs room in
-    let none = cut_none w funcs room in
-    let short = cut_whole w funcs room in
-    let holding = traced_holds w funcs room in
-    let rest = c.args.rest.now in
-    let env = env_of c.args.env.now in
-    let par = c.args.parent in
-    let p = c.args.pass in
-    let a = action_view env c.args.action in
-    let k = c.in-Ok.ensures in
-    begins_make w funcs room deep first none short holding olds t a rest env par p c.in-Make.name c.in-Ok.m _ c.requires (record { table = k.table; readers = refl; marks = refl }) k.ok k.new k.room (env_of c.as_slice-in-Ok.result.now) (ap (action_view env) c.in-Make.is) (ap env_of c.as_slice-in-Ok.ensures ∙ c.bound_in-more-in-Ok.ensures)
+    begins_bind w funcs room deep first none short holding olds t a rest env par p c.in-Bind.name (plain_value c.in-Bind.value) (env_of c.deref.result.now) (ap (action_view env) c.in-Bind.is) (ap env_of c.deref.ensures.value ∙ c.in-Ok.ensures) c.requires
 
 pub act_on-returns-in-Ok : goal.act_on-returns-in-Ok
 act_on-returns-in-Ok g n c =
@@ -98,11 +58,8 @@ act_on-returns-in-Ok g n c =
     let par = c.args.parent in
     let p = c.args.pass in
     let a = action_view env c.args.action in
-    let k = c.in-Ok.ensures in
-    let m = c.in-Ok.m in
-    let l = c.run_block-r.ensures in
-    let last = A m (did l.0 c.run_block-r.result.0) in
-    (last, leaves_make_on w funcs room deep first none short holding olds t a rest env par p _ c.run_block-r.result.1 (ended_of l.0 c.run_block-r.result.0) (ended_of last c.after_made.result) c.in-Make.name m (env_of c.as_slice-in-Ok.result.now) l.1 c.requires (record { table = k.table; readers = refl; marks = refl }) k.ok k.new k.room (ap (action_view env) c.in-Make.is) (ap env_of c.as_slice-in-Ok.ensures ∙ c.bound_in-more-in-Ok.ensures) (c.after_made.ensures l.0))
+    let k = c.run_block.ensures in
+    (k.0, leaves_bind w funcs room deep first none short holding olds t a rest env par p c.in-Bind.name (plain_value c.in-Bind.value) (env_of c.deref.result.now) (ap (action_view env) c.in-Bind.is) (ap env_of c.deref.ensures.value ∙ c.in-Ok.ensures) c.run_block.result.1 (ended_of k.0 c.run_block.result.0) k.1)
 
 pub act_on-returns-in-Err : goal.act_on-returns-in-Err
 act_on-returns-in-Err g n c =
@@ -121,8 +78,90 @@ act_on-returns-in-Err g n c =
     let par = c.args.parent in
     let p = c.args.pass in
     let a = action_view env c.args.action in
-    let k = c.in-Err.ensures in
-    (E, leaves_full w funcs room deep first none short holding olds t a rest env par p _ c.in-Err.full c.in-Make.name c.requires (record { table = k.table; readers = refl; marks = refl }) k.full.0 k.full.1 k.full.2 (ap (action_view env) c.in-Make.is))
+    (E, leaves_unbound w funcs room deep first none short holding olds t a rest env par p c.in-Bind.name (plain_value c.in-Bind.value) (ap (action_view env) c.in-Bind.is) c.requires)
+
+pub act_on-run_block-r-requires-after_bounds : goal.act_on-run_block-r-requires-after_bounds
+act_on-run_block-r-requires-after_bounds g n c κs within =
+    let w = setting_on c.args.ground.now c.args.texts.now in
+    let t = c.args.tables.now in
+    let funcs = c.args.funcs.now in
+    let olds = c.args.olds.now in
+    let room = levels - c.args.level in
+    let deep = traced w funcs room in
+    let first = cut_short w funcs room in
+    let none = cut_none w funcs room in
+    let short = cut_whole w funcs room in
+    let holding = traced_holds w funcs room in
+    let rest = c.args.rest.now in
+    let env = env_of c.args.env.now in
+    let par = c.args.parent in
+    let p = c.args.pass in
+    let a = action_view env c.args.action in
+    let k = c.in-Ok-claim.ensures in
+    begins_make w funcs room deep first none short holding olds t a rest env par p c.in-Make.name c.in-Ok-claim.m _ c.requires (record { table = k.table; readers = refl; marks = refl }) k.ok k.new k.room (env_of c.deref-in-Ok-bound_in.result.now) (ap (action_view env) c.in-Make.is) (ap env_of c.deref-in-Ok-bound_in.ensures.value ∙ c.in-Ok-bound_in.ensures)
+
+pub act_on-returns-in-Ok-bound_in : goal.act_on-returns-in-Ok-bound_in
+act_on-returns-in-Ok-bound_in g n c =
+    let w = setting_on c.args.ground.now c.args.texts.now in
+    let t = c.args.tables.now in
+    let funcs = c.args.funcs.now in
+    let olds = c.args.olds.now in
+    let room = levels - c.args.level in
+    let deep = traced w funcs room in
+    let first = cut_short w funcs room in
+    let none = cut_none w funcs room in
+    let short = cut_whole w funcs room in
+    let holding = traced_holds w funcs room in
+    let rest = c.args.rest.now in
+    let env = env_of c.args.env.now in
+    let par = c.args.parent in
+    let p = c.args.pass in
+    let a = action_view env c.args.action in
+    let k = c.in-Ok-claim.ensures in
+    let m = c.in-Ok-claim.m in
+    let l = c.run_block-r.ensures in
+    let last = A m (did l.0 c.run_block-r.result.0) in
+    (last, leaves_make_on w funcs room deep first none short holding olds t a rest env par p _ c.run_block-r.result.1 (ended_of l.0 c.run_block-r.result.0) (ended_of last c.after_made.result) c.in-Make.name m (env_of c.deref-in-Ok-bound_in.result.now) l.1 c.requires (record { table = k.table; readers = refl; marks = refl }) k.ok k.new k.room (ap (action_view env) c.in-Make.is) (ap env_of c.deref-in-Ok-bound_in.ensures.value ∙ c.in-Ok-bound_in.ensures) (c.after_made.ensures l.0))
+
+pub act_on-returns-in-Err-bound_in : goal.act_on-returns-in-Err-bound_in
+act_on-returns-in-Err-bound_in g n c =
+    let w = setting_on c.args.ground.now c.args.texts.now in
+    let t = c.args.tables.now in
+    let funcs = c.args.funcs.now in
+    let olds = c.args.olds.now in
+    let room = levels - c.args.level in
+    let deep = traced w funcs room in
+    let first = cut_short w funcs room in
+    let none = cut_none w funcs room in
+    let short = cut_whole w funcs room in
+    let holding = traced_holds w funcs room in
+    let rest = c.args.rest.now in
+    let env = env_of c.args.env.now in
+    let par = c.args.parent in
+    let p = c.args.pass in
+    let a = action_view env c.args.action in
+    let k = c.in-Ok-claim.ensures in
+    (A c.in-Ok-claim.m E, leaves_unnamed w funcs room deep first none short holding olds t a rest env par p c.in-Make.name c.in-Ok-claim.m _ c.requires (record { table = k.table; readers = refl; marks = refl }) k.ok k.new k.room (ap (action_view env) c.in-Make.is))
+
+pub act_on-returns-in-Err-claim : goal.act_on-returns-in-Err-claim
+act_on-returns-in-Err-claim g n c =
+    let w = setting_on c.args.ground.now c.args.texts.now in
+    let t = c.args.tables.now in
+    let funcs = c.args.funcs.now in
+    let olds = c.args.olds.now in
+    let room = levels - c.args.level in
+    let deep = traced w funcs room in
+    let first = cut_short w funcs room in
+    let none = cut_none w funcs room in
+    let short = cut_whole w funcs room in
+    let holding = traced_holds w funcs room in
+    let rest = c.args.rest.now in
+    let env = env_of c.args.env.now in
+    let par = c.args.parent in
+    let p = c.args.pass in
+    let a = action_view env c.args.action in
+    let k = c.in-Err-claim.ensures in
+    (E, leaves_full w funcs room deep first none short holding olds t a rest env par p _ c.in-Err-claim.full c.in-Make.name c.requires (record { table = k.table; readers = refl; marks = refl }) k.full.0 k.full.1 k.full.2 (ap (action_view env) c.in-Make.is))
 
 pub act_on-warned-pass-requires-clause-of : goal.act_on-warned-pass-requires-clause-of
 act_on-warned-pass-requires-clause-of g n c = c.requires.of
@@ -259,7 +298,7 @@ act_on-run_inner-requires-in-Called-after_bounds g n c κs within =
     let par = c.args.parent in
     let p = c.args.pass in
     let called : List Binding → Action Handle = λ l. Body c.in-Called.body.now (env_of l) in
-    subst (λ z. BeginsAct w funcs olds t z rest env par p) (ap (action_view env) c.in-Called.is ∙ ap called (sym c.as_slice-in-Called.ensures)) c.requires
+    subst (λ z. BeginsAct w funcs olds t z rest env par p) (ap (action_view env) c.in-Called.is ∙ ap called (sym c.deref-in-Called.ensures.value)) c.requires
 
 pub act_on-returns-in-Called : goal.act_on-returns-in-Called
 act_on-returns-in-Called g n c =
@@ -279,7 +318,7 @@ act_on-returns-in-Called g n c =
     let p = c.args.pass in
     let called : List Binding → Action Handle = λ l. Body c.in-Called.body.now (env_of l) in
     let l = c.run_inner-in-Called.ensures in
-    (l.0, subst (λ z. LeavesAct w room deep first olds t z rest env par p c.run_inner-in-Called.result.1 (ended_of l.0 c.run_inner-in-Called.result.0)) (sym (ap (action_view env) c.in-Called.is ∙ ap called (sym c.as_slice-in-Called.ensures))) l.1)
+    (l.0, subst (λ z. LeavesAct w room deep first olds t z rest env par p c.run_inner-in-Called.result.1 (ended_of l.0 c.run_inner-in-Called.result.0)) (sym (ap (action_view env) c.in-Called.is ∙ ap called (sym c.deref-in-Called.ensures.value))) l.1)
 
 pub act_on-run_read-requires-after_bounds : goal.act_on-run_read-requires-after_bounds
 act_on-run_read-requires-after_bounds g n c κs within =
@@ -298,7 +337,7 @@ act_on-run_read-requires-after_bounds g n c κs within =
     let par = c.args.parent in
     let p = c.args.pass in
     let block : List Seen → Action Handle = λ l. Block c.in-Block.number (reads_view l) c.in-Block.body.now (with_reads env c.in-Block.items.now (reads_view l)) in
-    subst (λ z. BeginsAct w funcs olds t z rest env par p) (ap (action_view env) c.in-Block.is ∙ ap block (sym c.deref.ensures.value)) c.requires
+    subst (λ z. BeginsAct w funcs olds t z rest env par p) (ap (action_view env) c.in-Block.is ∙ ap block (sym c.deref-in-Block.ensures.value)) c.requires
 
 pub act_on-returns-in-Block : goal.act_on-returns-in-Block
 act_on-returns-in-Block g n c =
@@ -318,7 +357,7 @@ act_on-returns-in-Block g n c =
     let p = c.args.pass in
     let block : List Seen → Action Handle = λ l. Block c.in-Block.number (reads_view l) c.in-Block.body.now (with_reads env c.in-Block.items.now (reads_view l)) in
     let l = c.run_read.ensures in
-    (l.0, subst (λ z. LeavesAct w room deep first olds t z rest env par p c.run_read.result.1 (ended_of l.0 c.run_read.result.0)) (sym (ap (action_view env) c.in-Block.is ∙ ap block (sym c.deref.ensures.value))) l.1)
+    (l.0, subst (λ z. LeavesAct w room deep first olds t z rest env par p c.run_read.result.1 (ended_of l.0 c.run_read.result.0)) (sym (ap (action_view env) c.in-Block.is ∙ ap block (sym c.deref-in-Block.ensures.value))) l.1)
 
 pub act_on-run_par-requires-after_bounds : goal.act_on-run_par-requires-after_bounds
 act_on-run_par-requires-after_bounds g n c κs within =
@@ -468,7 +507,7 @@ run_read-run_block-t-requires-after_bounds g n c κs within =
     let node = c.in-Ok.node in
     let r = c.in-Ok.reading in
     let op = subst (λ z. IfOk z (λ (x : Handle × Reading). Opens t p p1 (read_made par x.0 x.1) × Keeps p1.marks.knows x.0 × Keeps p1.marks.knows x.1.node × Began c.args.level c.args.number env reads x.1)) c.in-Ok.is c.opened-begun.ensures.ok in
-    let env_is : env_of c.as_slice.result.now ≡ inner = ap env_of c.as_slice.ensures ∙ c.entered-inner.ensures in
+    let env_is : env_of c.deref.result.now ≡ inner = ap env_of c.deref.ensures.value ∙ c.in-Ok-entered.ensures in
     subst (λ z. Begins w funcs olds t c.args.body.now z (Some r.node) p1) (sym env_is) (begins_block w funcs room deep first none short holding olds t rest env par p c.args.number c.args.level reads c.args.body.now inner c.requires node r p1 op.0 op.1 op.2 op.3)
 
 pub run_read-go_on-requires-after_bounds : goal.run_read-go_on-requires-after_bounds
@@ -493,7 +532,7 @@ run_read-go_on-requires-after_bounds g n c κs within =
     let node = c.in-Ok.node in
     let r = c.in-Ok.reading in
     let op = subst (λ z. IfOk z (λ (x : Handle × Reading). Opens t p p1 (read_made par x.0 x.1) × Keeps p1.marks.knows x.0 × Keeps p1.marks.knows x.1.node × Began c.args.level c.args.number env reads x.1)) c.in-Ok.is c.opened-begun.ensures.ok in
-    let env_is : env_of c.as_slice.result.now ≡ inner = ap env_of c.as_slice.ensures ∙ c.entered-inner.ensures in
+    let env_is : env_of c.deref.result.now ≡ inner = ap env_of c.deref.ensures.value ∙ c.in-Ok-entered.ensures in
     let l = c.run_block-t.ensures in
     let u = c.run_block-t.result.1 in
     let e = ended_of l.0 c.run_block-t.result.0 in
@@ -502,8 +541,8 @@ run_read-go_on-requires-after_bounds g n c κs within =
     let left = subst (λ z. Leaves w deep first olds t c.args.body.now z (Some r.node) p1 u e) env_is l.1 in
     begins_any w funcs olds t node last E c.in_block-t.result rest env u (begins_after_block w funcs room deep first none short holding olds t rest env par p c.args.number c.args.level reads c.args.body.now inner c.requires node r p1 op.0 op.1 op.2 u e f (c.in_block-t.ensures l.0) left op.3)
 
-pub run_read-returns-in-Ok : goal.run_read-returns-in-Ok
-run_read-returns-in-Ok g n c =
+pub run_read-returns-in-Ok-entered : goal.run_read-returns-in-Ok-entered
+run_read-returns-in-Ok-entered g n c =
     let w = setting_on c.args.ground.now c.args.texts.now in
     let t = c.args.tables.now in
     let funcs = c.args.funcs.now in
@@ -524,7 +563,7 @@ run_read-returns-in-Ok g n c =
     let node = c.in-Ok.node in
     let r = c.in-Ok.reading in
     let op = subst (λ z. IfOk z (λ (x : Handle × Reading). Opens t p p1 (read_made par x.0 x.1) × Keeps p1.marks.knows x.0 × Keeps p1.marks.knows x.1.node × Began c.args.level c.args.number env reads x.1)) c.in-Ok.is c.opened-begun.ensures.ok in
-    let env_is : env_of c.as_slice.result.now ≡ inner = ap env_of c.as_slice.ensures ∙ c.entered-inner.ensures in
+    let env_is : env_of c.deref.result.now ≡ inner = ap env_of c.deref.ensures.value ∙ c.in-Ok-entered.ensures in
     let l = c.run_block-t.ensures in
     let u = c.run_block-t.result.1 in
     let e = ended_of l.0 c.run_block-t.result.0 in
@@ -533,6 +572,30 @@ run_read-returns-in-Ok g n c =
     let left = subst (λ z. Leaves w deep first olds t c.args.body.now z (Some r.node) p1 u e) env_is l.1 in
     let x = c.go_on.ensures last in
     (x.0, leaves_block w funcs room deep first none short holding olds t rest env par p c.args.number c.args.level reads c.args.body.now inner c.requires node r p1 op.0 op.1 op.2 u e f (c.in_block-t.ensures l.0) left op.3 refl c.go_on.result.1 (ended_of x.0 c.go_on.result.0) x.1)
+
+pub run_read-returns-in-Err-entered : goal.run_read-returns-in-Err-entered
+run_read-returns-in-Err-entered g n c =
+    let w = setting_on c.args.ground.now c.args.texts.now in
+    let t = c.args.tables.now in
+    let funcs = c.args.funcs.now in
+    let olds = c.args.olds.now in
+    let room = levels - c.args.level in
+    let deep = traced w funcs room in
+    let first = cut_short w funcs room in
+    let none = cut_none w funcs room in
+    let short = cut_whole w funcs room in
+    let holding = traced_holds w funcs room in
+    let rest = c.args.rest.now in
+    let env = env_of c.args.env.now in
+    let par = c.args.parent in
+    let p = c.args.pass in
+    let reads = reads_view c.args.seen.now in
+    let inner = with_reads env c.args.items.now reads in
+    let p1 = c.opened-begun.result.1 in
+    let node = c.in-Ok.node in
+    let r = c.in-Ok.reading in
+    let op = subst (λ z. IfOk z (λ (x : Handle × Reading). Opens t p p1 (read_made par x.0 x.1) × Keeps p1.marks.knows x.0 × Keeps p1.marks.knows x.1.node × Began c.args.level c.args.number env reads x.1)) c.in-Ok.is c.opened-begun.ensures.ok in
+    (S node (R r E) E, leaves_unentered w funcs room deep first none short holding olds t rest env par p c.args.number c.args.level reads c.args.body.now inner c.requires r op.3 refl node p1 op.0)
 
 pub run_read-returns-in-Err : goal.run_read-returns-in-Err
 run_read-returns-in-Err g n c =
