@@ -13,6 +13,10 @@ share/man/man1/psac.1
 share/man/man1/psac-table.1
 share/psac/front/enter.sh
 share/psac/tools/table
+bin/psac-explain
+bin/psac-work-plot
+share/man/man1/psac-record-svg.1
+share/psac/tools/psac_record.py
 share/bash-completion/completions/psac
 share/bash-completion/completions/psac-table
 share/zsh/site-functions/_psac
@@ -77,6 +81,12 @@ class Install(support.Case):
         self.assertEqual(self.installed(f"{self.folder}/link", *double)[0], 0)
         self.save("t.csv", "a\n5\n")
         self.assertEqual(self.installed(f"{folder}/psac-table", "t.csv"), (0, b"5\n", b""))
+        self.save("before", "psac record 1\nE\n")
+        self.save("t.txt", "5\n")
+        self.assertEqual(self.installed(f"{folder}/psac-explain", "before", "before")[0], 0)
+        self.assertEqual(self.installed(f"{folder}/psac-record-svg", "before")[0], 0)
+        self.assertEqual(self.installed(f"{folder}/psac-edits", "t.txt", "t.txt"), (0, b"commit\n", b""))
+        self.assertEqual(self.installed(f"{folder}/psac-work-plot", "t.txt")[0], 1)
 
     def test_destdir(self):
         stage = f"{self.folder}/stage"
@@ -98,7 +108,7 @@ class Install(support.Case):
     def test_manual_pages(self):
         if shutil.which("man") is None:
             self.skipTest("man isn't there")
-        for name in ("psac.1", "psac-table.1"):
+        for name in sorted(os.listdir(f"{support.ROOT}/man")):
             words = ["man", "--warnings", "-l", f"{support.ROOT}/man/{name}"]
             status, page, errors = support.ran(words, env=support.environment(MANPAGER="cat"))
             self.assertEqual((status, errors), (0, b""), name)
