@@ -1,0 +1,323 @@
+-- The walk over an old record that a run left, while the run by paths goes over the new heap: what a repair that was cut short drew is at most what
+-- stands inside the blocks that are run again there, of statements that meet the series rule.
+use Rattle.std.proofs.Common.{◌≡◌, ℕ, suc, zero, ◌+◌, Bool, true, false, not, List, [], ◌∷◌, ◌++◌, map, Some, Result, Ok, Err, refl, ap, sym, ◌∙◌, subst, ◌⊎◌, inl, inr, append_assoc, zero-add}
+use Rattle.psac_ops.specs.Value.{Value, ref}
+use Rattle.psac_ops.specs.Table.{◌>>=◌}
+use Rattle.psac_syntax.specs.declared.program.Stmt.{Stmt, out-Stmt}
+use Rattle.psac_syntax.specs.declared.program.Stmt.TheOpen.{Stmt-F}
+use Rattle.psac_syntax.specs.declared.program.ReadItem.{ReadItem}
+use Rattle.psac_syntax.specs.declared.program.Func.{Func}
+use Rattle.psac_model.specs.declared.ends.FaultKind.{FaultKind}
+use Rattle.psac_model.specs.declared.ends.End.{End}
+use Rattle.psac_model.specs.declared.ends.End.TheVariants.{Done, Stop}
+use Rattle.psac_model.specs.Names.{Path, Name, Made, Env, Heap, bind, same_name}
+use Rattle.psac_model.specs.Expression.{Setting, in_order}
+use Rattle.psac_model.specs.Tree.{Reads, size_of}
+use Rattle.psac_model.specs.Tree as tree
+use Rattle.psac_model.specs.Redo.{made_inside, reads_differ, redo_from}
+use Rattle.psac_model.specs.Run.{Ran, Manner, Deeper, Action, Bind, Make, Put, Body, Block, Sides, action_of, read_of, with_reads, line_of, first_stop, act, act_or_stop, sequence, both, under, plainly, by_path, by_path_in, run, run_none, run_full, run_more, func_named}
+use Rattle.psac_naming.specs.Alike.{Agree, Alike, AlikeRead, Each, Envs, Settings, Tests}
+use Rattle.psac_naming.specs.Naming.{IsNamed, IsSameTest}
+use Rattle.psac_naming.proofs.Actions.{AlikeAction, action_alike, bind_alike}
+use Rattle.psac_naming.proofs.Names.{and_is}
+use Rattle.psac_naming.proofs.Namings.{named_left, named_right}
+use Rattle.psac_naming.proofs.Trees.{envs_more}
+use Rattle.psac_laws.specs.Standing.{Standing, series, MeetsSeries}
+use Rattle.psac_laws.proofs.Heaps.{Wider, wider_written}
+use Rattle.psac_laws.proofs.Good.{Runs, Good, plainly_reads_held, wider_same, wider_first, wider_left}
+use Rattle.psac_laws.proofs.Rules.{steps}
+use Rattle.psac_laws.proofs.Values.{Where}
+use Rattle.psac_laws.proofs.Safe.{Safe, May, Target}
+use Rattle.psac_laws.proofs.Pairs.{pair_runs}
+use Rattle.psac_laws.proofs.Asks.{asks_same}
+use Rattle.psac_laws.proofs.Acts.{Sound, Goes, Part, rest_safe}
+use Rattle.psac_laws.proofs.Sound.{act_goes, run_sound}
+use Rattle.psac_traced.specs.Rec.{Rec, E, A, W, S, P, R, HeapOf, writes, tree_of}
+use Rattle.psac_traced.specs.Traced.{Traces, listed, goes_on, acts, acts_or_stops, traced}
+use Rattle.psac_traced.specs.Renamed.{Heaps, Recs, IsOnly, reads_named}
+use Rattle.psac_traced.specs.Places.{names, Makes}
+use Rattle.psac_traced.specs.Scoped.{On, Or, ReadsOf, Reading}
+use Rattle.psac_traced.specs.Holds.{read_names, Sees}
+use Rattle.psac_traced.specs.Parts.{IsClosed}
+use Rattle.psac_traced.specs.Mending.{unlike}
+use Rattle.psac_traced.specs.Mended.{Reran, Mended}
+use Rattle.psac_traced.proofs.Again.{not_done, first_left, reads_there}
+use Rattle.psac_traced.proofs.Alike.{each_append, held_alike, heaps_then, reads_image}
+use Rattle.psac_traced.proofs.Asked.{Asked, IsBlock, asked, asked_there}
+use Rattle.psac_traced.proofs.Mended.{traced_mended}
+use Rattle.psac_traced.proofs.Named.{traced_twin}
+use Rattle.psac_traced.proofs.Paths.{ran, action_is, traced_is}
+use Rattle.psac_traced.proofs.Places.{names_tied, alike_placed}
+use Rattle.psac_traced.proofs.Scoped.{heap_more, traced_scoped}
+use Rattle.psac_cut.specs.CutShort.{cut_short}
+use Rattle.psac_cut.specs.Within.{drew, IsWithin}
+use Rattle.psac_cut.proofs.Within.{cut_bound}
+use Rattle.psac_cut_repair.specs.CutMended.{CutAgain, CutMended}
+use Rattle.psac_cut_repair.proofs.Cutting.{like_itself, mended_cut}
+use Rattle.psac_cut_repair.proofs.Turned.{redo_grows}
+use Rattle.psac_cut_repair.proofs.Differs.{unlike_differ}
+use Rattle.psac_cut_repair.proofs.Walked.{old_of, Kept, Known, known_part, Walked, walked_none, walked_bare, walked_made, walked_wrote, walked_both, walked_sides, walked_broken, walked_like, walked_again}
+
+-- a par whose sides are both done
+pair_is : (l : Ran Name Heap) (right : Heap → Ran Name Heap) (x y : Rec Name) (z : Heap) → l ≡ ran x z Done → right (writes x ++ z) ≡ ran y (writes x ++ z) Done → both l right ≡ record { tree = tree.P (tree_of x) (tree_of y); heap = writes y ++ (writes x ++ z); end = Done }
+pair_is l right x y z i j = rw (i, j) refl
+
+heap_both : {M : Type 0} (K : M → Type 0) (a b : HeapOf M) → ReadsOf K a → ReadsOf K b → ReadsOf K (a ++ b)
+heap_both K a b h k = each_append (AlikeRead (On K)) a b a b h k
+
+not_itself : (b : Bool) → b ≡ true → b ≡ false → ⊥
+not_itself b h k = cc
+
+-- two names for a modifiable, of the old record and of the new one, and the modifiables that the old one has
+module _ {M : Type 0} (T : M → Name → Type 0) (only : IsOnly T) (w : Setting M) (u' : Setting Name) (plain : u'.same ≡ same_name) (settings : Settings T w u') (tests : Tests T w.same u'.same) (is : IsSameTest w.same) (funcs : List Func) (Q : List Stmt → Type 0) (closed : IsClosed funcs Q) (Inputs : M → Type 0) (inputs : Settings (On Inputs) w w) (f g : M → Name) (O : M → Type 0) (g_is : (m : M) (n : Name) → T m n → g m ≡ n) (one_name : (h k : M) → O h → O k → w.same h k ≡ same_name (f h) (f k)) where
+  abbrev pub Know : List Path → M → Type 0
+  Know = Known f g O
+
+  abbrev pub Walks_to : Path → List Path → Rec M → Rec M → ℕ → tree.Tree Name → Type 0
+  Walks_to = Walked w.same f g O
+
+  -- the names that are read off a new record from a path on
+  abbrev pub Named : Path → Rec M → Type 0
+  Named p c = (m : M) (k : Name) → IsNamed (names p c) m k → T m k
+
+  -- a part of the old record: its names by paths, and what its reads name
+  pub record Olden (p : Path) (r : Rec M) : Type 0 where
+    pub named : (m : M) (n : Name) → IsNamed (names p r) m n → f m ≡ n
+    pub made : (m : M) → Makes r m → O m
+    pub reading : Reading O r
+
+  -- where a part of the new run begins: the modifiables that are known there, beside the heap and the environment by paths
+  pub record Here (K : M → Type 0) (st : Standing) (env : Env M) (env' : Env Name) (other : HeapOf M) (over h : Heap) (p : Path) (zs : List Path) : Type 0 where
+    pub sets : (m : M) → Inputs m → K m
+    pub safe : Safe u' st env' h p
+    pub wider : Wider h over
+    pub envs : Envs T env env'
+    pub heaps : Heaps T other over
+    pub scope : Envs (On K) env env
+    pub reach : ReadsOf K other
+    pub known : (k : M) → K k → Know zs k
+
+  abbrev pub Walks : ℕ → Type 1
+  Walks room = (K : M → Type 0) (body : List Stmt) (st end : Standing) (env : Env M) (env' : Env Name) (heap other : HeapOf M) (over h : Heap) (p : Path) (zs : List Path) (r c : Rec M) (n : ℕ) → Q body → series body st ≡ Some end → Here K st env env' other over h p zs → Olden p r → Named p c → traced w funcs room body env heap r Done → CutMended w funcs Q other r c n → Walks_to p zs r c n (run by_path u' funcs room body env' h p).tree
+
+  -- parts of records
+  left_named : (p : Path) (t r : Rec M) → Named p (S t r) → Named (p ++ 0 ∷ []) t
+  left_named p t r named m k i = named m k (named_left (names (p ++ 0 ∷ []) t) (names (p ++ 1 ∷ []) r) m k i)
+
+  right_named : (p : Path) (t r : Rec M) → Named p (S t r) → Named (p ++ 1 ∷ []) r
+  right_named p t r named m k i = named m k (named_right (names (p ++ 0 ∷ []) t) (names (p ++ 1 ∷ []) r) m k i)
+
+  turned_named : (p : Path) (c : ℕ) (t : Rec M) → Named ((p ++ 0 ∷ []) ++ c ∷ []) t → Named (p ++ 0 ∷ c ∷ []) t
+  turned_named p c t named = subst (λ z. Named z t) (append_assoc p (0 ∷ []) (c ∷ [])) named
+
+  left_olden : (p : Path) (t r : Rec M) → Olden p (S t r) → Olden (p ++ 0 ∷ []) t
+  left_olden p t r o =
+      record { named = λ m n i. o.named m n (named_left (names (p ++ 0 ∷ []) t) (names (p ++ 1 ∷ []) r) m n i); made = λ m i. o.made m (inl i); reading = o.reading.0 }
+
+  right_olden : (p : Path) (t r : Rec M) → Olden p (S t r) → Olden (p ++ 1 ∷ []) r
+  right_olden p t r o =
+      record { named = λ m n i. o.named m n (named_right (names (p ++ 0 ∷ []) t) (names (p ++ 1 ∷ []) r) m n i); made = λ m i. o.made m (inr i); reading = o.reading.1 }
+
+  as_parts : (p : Path) (t r : Rec M) → Olden p (P t r) → Olden p (S t r)
+  as_parts p t r o = record { named = o.named; made = o.made; reading = o.reading }
+
+  turned_olden : (p : Path) (c : ℕ) (t : Rec M) → Olden ((p ++ 0 ∷ []) ++ c ∷ []) t → Olden (p ++ 0 ∷ c ∷ []) t
+  turned_olden p c t o = subst (λ z. Olden z t) (append_assoc p (0 ∷ []) (c ∷ [])) o
+
+  turned_walks : (p : Path) (c : ℕ) (zs : List Path) (r s : Rec M) (n : ℕ) (new : tree.Tree Name) → Walks_to (p ++ 0 ∷ c ∷ []) zs r s n new → Walks_to ((p ++ 0 ∷ []) ++ c ∷ []) zs r s n new
+  turned_walks p c zs r s n new x = subst (λ z. Walks_to z zs r s n new) (sym (append_assoc p (0 ∷ []) (c ∷ []))) x
+
+  turned_redo : (p : Path) (c : ℕ) (zs : List Path) (r : Rec M) (new : tree.Tree Name) → redo_from ((p ++ 0 ∷ []) ++ c ∷ []) (old_of f r) new zs ≡ redo_from (p ++ 0 ∷ c ∷ []) (old_of f r) new zs
+  turned_redo p c zs r new = ap (λ z. redo_from z (old_of f r) new zs) (append_assoc p (0 ∷ []) (c ∷ []))
+
+  -- what is known, to more
+  env_on : (K L : M → Type 0) → ((m : M) → K m → L m) → (env : Env M) → Envs (On K) env env → Envs (On L) env env
+  env_on K L up env h = envs_more (On K) (On L) (λ m n i. (up m i.0, i.1)) env env h
+
+  inputs_on : (K : M → Type 0) → ((m : M) → Inputs m → K m) → Settings (On K) w w
+  inputs_on K up =
+      record {
+        opened = refl;
+        room = refl;
+        cols = refl;
+        texts = refl;
+        cells = λ r c h k. (let i = inputs.cells r c h k in (up (w.cell r c) i.0, i.1));
+        row_count = (up w.row_count inputs.row_count.0, inputs.row_count.1);
+      }
+
+  tests_on : (K : M → Type 0) → Tests (On K) w.same w.same
+  tests_on K m k n l h i = ap (λ z. w.same z k) h.1 ∙ ap (w.same n) i.1
+
+  -- two names that are the same, of a modifiable of the old record and of one that is known outside the blocks
+  known_same : (zs : List Path) (h k : M) → O h → Know zs k → same_name (f h) (g k) ≡ true → made_inside zs (g k) ≡ false → w.same h k ≡ true
+  known_same zs h k o (inl i) e out = one_name h k o i.0 ∙ ap (same_name (f h)) i.1 ∙ e
+  known_same zs h k o (inr i) e out = absurd (not_itself (made_inside zs (g k)) i out)
+
+  -- a part that was run to its end, and the run by paths that it stands for
+  record Whole (p : Path) (over : Heap) (t : Rec M) (end : End) (gave : Ran Name Heap) : Type 0 where
+    rec : Rec Name
+    alike : Recs T t rec
+    gives : gave ≡ ran rec over end
+
+  whole : (room : ℕ) (body : List Stmt) (env : Env M) (env' : Env Name) (other : HeapOf M) (over : Heap) (p : Path) (t : Rec M) (end : End) → Envs T env env' → Heaps T other over → Named p t → traced w funcs room body env other t end → Whole p over t end (run by_path u' funcs room body env' over p)
+  whole room body env env' other over p t end e h named k =
+      let twin = traced_twin T w u' funcs settings tests room body env env' other over t end e h (names_tied T p t named) k in
+      record { rec = twin.rec; alike = twin.alike; gives = traced_is u' plain funcs room body env' over p twin.rec end (alike_placed T only p t twin.rec named twin.alike) twin.stands }
+
+  module _ (checked : (i : ℕ) (c : Func) → func_named i funcs ≡ Some c → MeetsSeries c) (room : ℕ) (walks : Walks room) where
+    abbrev fs : Manner → Deeper Name Heap
+    fs a = run (by_path_in a) u' funcs room
+
+    abbrev sound : Sound u' fs
+    sound = run_sound u' funcs checked room
+
+    done_on : (e : End) (rest : List Stmt) (env : Env M) (heap : HeapOf M) (r : Rec M) → goes_on e (traced w funcs room) rest env heap r Done → (e ≡ Done) × traced w funcs room rest env heap r Done
+    done_on Done rest env heap r k = (refl, k)
+    done_on (Stop why line) rest env heap r k = not_done why line k.1
+
+    module _ (K : M → Type 0) (line : ℕ) (rest : List Stmt) (st mid end : Standing) (env : Env M) (env' : Env Name) (heap other : HeapOf M) (over h : Heap) (p : Path) (zs : List Path) (more : series rest mid ≡ Some end) (q : Q rest) (at : Here K st env env' other over h p zs) where
+      abbrev goes : Action Name → Type 0
+      goes = Goes u' funcs fs sound line rest st mid end env' h p more at.safe
+
+      abbrev part : Runs → Type 0
+      part = Part u' funcs fs sound line rest st mid end env' h p more at.safe
+
+      abbrev after : Action Name → tree.Tree Name
+      after a = (act by_path (fs plainly) a rest env' h p).tree
+
+      -- what a part that was run over the new heap wrote names only what is known, or what it made
+      wrote : (L : M → Type 0) → ((m : M) → K m → L m) → (body : List Stmt) (inner : Env M) (there : HeapOf M) (t : Rec M) (e : End) → Envs (On L) inner inner → ReadsOf L there → traced w funcs room body inner there t e → ReadsOf (Or L (Makes t)) (writes t)
+      wrote L up body inner there t e scope reach k = (traced_scoped w funcs Inputs inputs room L (λ m i. up m (at.sets m i)) body inner there t e scope reach k).1
+
+      -- the rest behind a part that is done
+      rest_walks : (k : Runs) → part k → (t u : Rec M) (x : Rec Name) → Recs T u x → (k plainly over).end ≡ Done → (k plainly over).heap ≡ writes x ++ over → ReadsOf (Or K (Makes u)) (writes u) → Walks_to (p ++ 0 ∷ []) zs t u 0 (k plainly h).tree → (r c : Rec M) (n : ℕ) → Olden (p ++ 1 ∷ []) r → Named (p ++ 1 ∷ []) c → traced w funcs room rest env (writes t ++ heap) r Done → CutMended w funcs Q (writes u ++ other) r c n → Walks_to p zs (S t r) (S u c) n (sequence (k plainly h) (λ z. fs plainly rest env' z (p ++ 1 ∷ []))).tree
+      rest_walks k own t u x alike done left made one r c n old named stands cut =
+          let same = own.good.frame plainly over plainly_reads_held at.wider in
+          let ended : (k plainly h).end ≡ Done = sym same.end ∙ done in
+          let there = (k plainly h).heap in
+          let ws = redo_from (p ++ 0 ∷ []) (old_of f t) (k plainly h).tree zs in
+          let L : M → Type 0 = Or K (Makes u) in
+          let here : Here L mid env env' (writes u ++ other) (writes x ++ over) there (p ++ 1 ∷ []) ws = record {
+            sets = λ m i. inl (at.sets m i);
+            safe = rest_safe u' funcs fs sound line rest st mid end env' h p more at.safe k own ended;
+            wider = subst (Wider there) left (wider_left own.good plainly over plainly_reads_held at.wider);
+            envs = at.envs;
+            heaps = heaps_then T u x other over alike at.heaps;
+            scope = env_on K L (λ m i. inl i) env at.scope;
+            reach = heap_both L (writes u) other made (heap_more K L (λ m i. inl i) other at.reach);
+            known = λ m i. elim i [
+              | inl a ↦ known_part f g O zs ws (redo_grows (p ++ 0 ∷ []) (old_of f t) (k plainly h).tree zs) m (at.known m a)
+              | inr a ↦ one.known m a
+            ];
+          } in
+          let two = walks L rest mid end env env' (writes t ++ heap) (writes u ++ other) (writes x ++ over) there (p ++ 1 ∷ []) ws r c n q more here old named stands cut in
+          rw ended
+          (subst (λ z. Walks_to p zs (S t r) (S u c) z (tree.S (k plainly h).tree (fs plainly rest env' there (p ++ 1 ∷ [])).tree)) (zero-add n)
+          (walked_both w.same f g O p zs t r u c 0 n (k plainly h).tree (fs plainly rest env' there (p ++ 1 ∷ [])).tree one two))
+
+      -- a compound statement that is cut short
+      broken : (k : Runs) (t r u c : Rec M) (n : ℕ) → c ≡ E → Walks_to (p ++ 0 ∷ []) zs t u n (k plainly h).tree → Walks_to p zs (S t r) (S u c) n (sequence (k plainly h) (λ z. fs plainly rest env' z (p ++ 1 ∷ []))).tree
+      broken k t r u c n e x =
+          subst (λ z. Walks_to p zs (S t r) (S u z) n (sequence (k plainly h) (λ z. fs plainly rest env' z (p ++ 1 ∷ []))).tree) (sym e)
+          (walked_broken w.same f g O p zs t r u n (k plainly h).end (k plainly h) (λ z. fs plainly rest env' z (p ++ 1 ∷ [])) x)
+
+      bind_walks : (x z : ℕ) (v : Value M) (y : Value Name) → x ≡ z → Alike T v y → Alike (On K) v v → goes (Bind z y) → (r c : Rec M) (n : ℕ) → Olden p r → Named p c → traced w funcs room rest (bind x v env) heap r Done → CutMended w funcs Q other r c n → Walks_to p zs r c n (after (Bind z y))
+      bind_walks x z v y i j self k r c n old named stands cut =
+          let here : Here K mid (bind x v env) (bind z y env') other over h p zs = record {
+            sets = at.sets;
+            safe = k.3;
+            wider = at.wider;
+            envs = subst (λ a. Envs T (bind x v env) (bind a y env')) i (bind_alike T x v y env env' j at.envs);
+            heaps = at.heaps;
+            scope = bind_alike (On K) x v v env env self at.scope;
+            reach = at.reach;
+            known = at.known;
+          } in
+          walks K rest mid end (bind x v env) (bind z y env') heap other over h p zs r c n q more here old named stands cut
+
+      make_walks : (d e : ℕ) → d ≡ e → goes (Make e) → (m l : M) (r c : Rec M) (n : ℕ) → Olden p (A m r) → Named p (A l c) → traced w funcs room rest (bind d (ref m) env) heap r Done → (m ≡ l) × CutMended w funcs Q other r c n → Walks_to p zs (A m r) (A l c) n (after (Make e))
+      make_walks d e i k m l r c n old named stands cut =
+          let own : T l (Made p) = named l (Made p) (inl (refl, refl)) in
+          let kept : Kept f g O l = subst (Kept f g O) cut.0 (old.made m (inl refl), old.named m (Made p) (inl (refl, refl)) ∙ sym (g_is m (Made p) (subst (λ z. T z (Made p)) (sym cut.0) own))) in
+          let L : M → Type 0 = Or K (λ z. l ≡ z) in
+          let here : Here L mid (bind d (ref l) env) (bind e (ref (Made p)) env') other over h (p ++ 3 ∷ []) zs = record {
+            sets = λ a b. inl (at.sets a b);
+            safe = k.2;
+            wider = at.wider;
+            envs = subst (λ z. Envs T (bind d (ref l) env) (bind z (ref (Made p)) env')) i (bind_alike T d (ref l) (ref (Made p)) env env' own at.envs);
+            heaps = at.heaps;
+            scope = bind_alike (On L) d (ref l) (ref l) env env (inr refl, refl) (env_on K L (λ a b. inl b) env at.scope);
+            reach = heap_more K L (λ a b. inl b) other at.reach;
+            known = λ a b. elim b [ inl x ↦ at.known a x | inr x ↦ inl (subst (Kept f g O) x kept) ];
+          } in
+          let deeper : Olden (p ++ 3 ∷ []) r = record { named = λ a b x. old.named a b (inr x); made = λ a x. old.made a (inr x); reading = old.reading } in
+          walked_made w.same f g O p zs m l r c n _ kept
+          (walks L rest mid end (bind d (ref l) env) (bind e (ref (Made p)) env') heap other over h (p ++ 3 ∷ []) zs r c n q more here deeper (λ a b x. named a b (inr x)) (subst (λ z. traced w funcs room rest (bind d (ref z) env) heap r Done) cut.0 stands) cut.1)
+
+      put_walks : (m : M) (b : Name) (v : Value M) (y : Value Name) → T m b → Alike T v y → On K m m → Alike (On K) v v → goes (Put b y) → (a l : M) (o x : Value M) (r c : Rec M) (n : ℕ) → Olden p (W a o r) → Named p (W l x c) → (m ≡ a) × (v ≡ o) × traced w funcs room rest env ((a, o) ∷ heap) r Done → (a ≡ l) × (o ≡ x) × CutMended w funcs Q ((l, x) ∷ other) r c n → Walks_to p zs (W a o r) (W l x c) n (after (Put b y))
+      put_walks m b v y i j self self_v k a l o x r c n old named stands cut =
+          let ml : m ≡ l = stands.0 ∙ cut.0 in
+          let vx : v ≡ x = stands.1 ∙ cut.1 in
+          let il = subst (λ z. T z b) ml i in
+          let jx = subst (λ z. Alike T z y) vx j in
+          let wide : Wider ((b, y) ∷ h) ((b, y) ∷ over) = wider_written (tree.W b y tree.E) h over at.wider in
+          let mine : ReadsOf K ((l, x) ∷ []) = subst (λ z. ReadsOf K ((z, x) ∷ [])) ml (subst (λ z. ReadsOf K ((m, z) ∷ [])) vx ((self, self_v), tt)) in
+          let here : Here K mid env env' ((l, x) ∷ other) ((b, y) ∷ over) ((b, y) ∷ h) (p ++ 3 ∷ []) zs = record {
+            sets = at.sets;
+            safe = k.1;
+            wider = wide;
+            envs = at.envs;
+            heaps = ((il, jx), at.heaps);
+            scope = at.scope;
+            reach = heap_both K ((l, x) ∷ []) other mine at.reach;
+            known = at.known;
+          } in
+          let deeper : Olden (p ++ 3 ∷ []) r = record { named = old.named; made = old.made; reading = old.reading } in
+          walked_wrote w.same f g O p zs a l o x b y r c n _
+          (walks K rest mid end env env' ((a, o) ∷ heap) ((l, x) ∷ other) ((b, y) ∷ over) ((b, y) ∷ h) (p ++ 3 ∷ []) zs r c n q more here deeper named stands.2 cut.2)
+
+      -- a part that begins at a path below
+      begins : (body : List Stmt) (now : Standing) (inner : Env M) (inner' : Env Name) (p' : Path) → Safe u' now inner' h p' → Envs T inner inner' → Envs (On K) inner inner → Here K now inner inner' other over h p' zs
+      begins body now inner inner' p' safe envs scope =
+          record { sets = at.sets; safe = safe; wider = at.wider; envs = envs; heaps = at.heaps; scope = scope; reach = at.reach; known = at.known }
+
+      body_walks : (body : List Stmt) (inner : Env M) (inner' : Env Name) → Envs T inner inner' → Envs (On K) inner inner → Q body → goes (Body body inner') → (t r u c : Rec M) (n : ℕ) → Olden p (S t r) → Named p (S u c) → traced w funcs room body inner heap t Done → traced w funcs room rest env (writes t ++ heap) r Done → CutMended w funcs Q other (S t r) (S u c) n → Walks_to p zs (S t r) (S u c) n (after (Body body inner'))
+      body_walks body inner inner' envs scope so k t r u c n old named stands next (inl cut) =
+          broken (λ a z. fs a body inner' z (p ++ 0 ∷ [])) t r u c n cut.1
+          (walks K body k.0.names k.0.after inner inner' heap other over h (p ++ 0 ∷ []) zs t u n so k.0.meets (begins body k.0.names inner inner' (p ++ 0 ∷ []) k.0.safe envs scope) (left_olden p t r old) (left_named p u c named) stands cut.0)
+      body_walks body inner inner' envs scope so k t r u c n old named stands next (inr cut) =
+          let one = walks K body k.0.names k.0.after inner inner' heap other over h (p ++ 0 ∷ []) zs t u 0 so k.0.meets (begins body k.0.names inner inner' (p ++ 0 ∷ []) k.0.safe envs scope) (left_olden p t r old) (left_named p u c named) stands (mended_cut w funcs Q other t u Done cut.0) in
+          let now = traced_mended w funcs Q closed t u room body inner heap other Done so stands cut.0 in
+          let x = whole room body inner inner' other over (p ++ 0 ∷ []) u Done envs at.heaps (left_named p u c named) now in
+          rest_walks (λ a z. fs a body inner' z (p ++ 0 ∷ [])) k.1 t u x.rec x.alike (ap (λ (z : Ran Name Heap). z.end) x.gives) (ap (λ (z : Ran Name Heap). z.heap) x.gives) (wrote K (λ m i. i) body inner other u Done scope at.reach now) one r c n (right_olden p t r old) (right_named p u c named) next cut.1
+
+      module _ (number : ℕ) (saw : Reads Name) (first : List Stmt) (inner : Env M) (inner' : Env Name) (envs : Envs T inner inner') (scope : Envs (On K) inner inner) (so : Q first) (k : goes (Block number saw first inner')) where
+        abbrev below : Path
+        below = p ++ 0 ∷ 2 ∷ []
+
+        abbrev block_runs : Runs
+        block_runs a z = under (tree.R number env' saw) (fs a first inner' z below)
+
+        -- the block's node, over the reads of both
+        module _ (level label depth tag : ℕ) (saved kept : Env M) (reads again : Reads M) (seen : Each (AlikeRead T) again saw) (reach : ReadsOf K again) (t u : Rec M) (n : ℕ) (old : Olden (p ++ 0 ∷ []) (R level label saved reads t)) (named : Named (p ++ 0 ∷ []) (R depth tag kept again u)) where
+          in_olden : Olden below t
+          in_olden = turned_olden p 2 t (record { named = old.named; made = old.made; reading = old.reading.1 })
+
+          in_named : Named below u
+          in_named = turned_named p 2 u named
+
+          like_walks : reads ≡ again → traced w funcs room first inner heap t Done → CutMended w funcs Q other t u n → Walks_to (p ++ 0 ∷ []) zs (R level label saved reads t) (R depth tag kept again u) n (block_runs plainly h).tree
+          like_walks e stands cut =
+              walked_like w.same f g O (p ++ 0 ∷ []) zs level depth label tag number saved kept env' reads again saw t u n _ (ap (λ z. unlike w.same z again) e ∙ like_itself w.same is again)
+              (turned_walks p 2 zs t u n _ (walks K first k.1.names k.1.after inner inner' heap other over h below zs t u n so k.1.meets (begins first k.1.names inner inner' below k.1.safe envs scope) in_olden in_named stands cut))
+
+          again_walks : unlike w.same reads again ≡ true → cut_short w funcs room first inner other u n → Walks_to (p ++ 0 ∷ []) zs (R level label saved reads t) (R depth tag kept again u) n (block_runs plainly h).tree
+          again_walks e cut =
+              let bound = cut_bound T only w u' plain settings tests funcs checked room first k.1.names k.1.after inner inner' other over h below u n k.1.meets k.1.safe at.wider envs at.heaps in_named cut in
+              let differs = unlike_differ w.same f g O (Know zs) zs (known_same zs) reads again old.reading.0 (heap_more K (Know zs) at.known again reach) e in
+              walked_again w.same f g O (p ++ 0 ∷ []) zs level depth label tag number saved kept env' reads again saw t u n _ e
+              (subst (λ z. reads_differ zs (reads_named f reads) z ≡ true) (reads_image T g g_is again saw seen) differs)
+              (λ m l i. g_is m l (named m l i)) bound
+
+      sides_walks_hole : ℕ
+      sides_walks_hole = 0

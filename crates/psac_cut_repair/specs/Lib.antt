@@ -1,0 +1,3 @@
+pub mod CutMended
+pub mod Based
+pub mod Creates
