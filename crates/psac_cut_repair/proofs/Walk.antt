@@ -319,5 +319,167 @@ module _ {M : Type 0} (T : M → Name → Type 0) (only : IsOnly T) (w : Setting
               (subst (λ z. reads_differ zs (reads_named f reads) z ≡ true) (reads_image T g g_is again saw seen) differs)
               (λ m l i. g_is m l (named m l i)) bound
 
-      sides_walks_hole : ℕ
-      sides_walks_hole = 0
+      -- a read block whose reads the new record has
+      module _ (number : ℕ) (saw : Reads Name) (first : List Stmt) (items : List ReadItem) (again : Reads M) (inner' : Env Name) (envs : Envs T (with_reads env items again) inner') (scope : Envs (On K) (with_reads env items again) (with_reads env items again)) (so : Q first) (k : goes (Block number saw first inner')) (x : Stmt) (row : ℕ) (eq : out-Stmt x ≡ Stmt-F.Read row number items first) (here : Q (x ∷ rest)) (seen : Each (AlikeRead T) again saw) (reach : ReadsOf K again) (level label depth tag : ℕ) (saved kept : Env M) (reads : Reads M) (rl : room ≡ level) (nl : number ≡ label) (es : env ≡ saved) (t u : Rec M) (stands : traced w funcs room first (with_reads env items reads) heap t Done) where
+        abbrev inner : Env M
+        inner = with_reads env items again
+
+        abbrev before : Rec M
+        before = R level label saved reads t
+
+        abbrev now : Rec M
+        now = R depth tag kept again u
+
+        labelled : out-Stmt x ≡ Stmt-F.Read row label items first
+        labelled = subst (λ z. out-Stmt x ≡ Stmt-F.Read row z items first) nl eq
+
+        as_now : reads ≡ again → traced w funcs room first inner heap t Done
+        as_now e = subst (λ z. traced w funcs room first (with_reads env items z) heap t Done) e stands
+
+        node_walks : (n : ℕ) → Olden (p ++ 0 ∷ []) before → Named (p ++ 0 ∷ []) now → CutMended w funcs Q other before now n → Walks_to (p ++ 0 ∷ []) zs before now n (block_runs number saw first inner inner' envs scope so k plainly h).tree
+        node_walks n old named cut =
+            elim cut.5 [
+              | inl j ↦ like_walks number saw first inner inner' envs scope so k level label depth tag saved kept reads again seen reach t u n old named j.0 (as_now j.0) j.1
+              | inr j ↦
+                  again_walks number saw first inner inner' envs scope so k level label depth tag saved kept reads again seen reach t u n old named j.0
+                  (subst (λ z. cut_short w funcs room first (with_reads z items again) other u n) (sym es)
+                  (subst (λ z. cut_short w funcs z first (with_reads saved items again) other u n) (sym rl) (j.1 x rest row items first labelled here)))
+            ]
+
+        ran_now : Mended w funcs Q other before now Done → traced w funcs room first inner other u Done
+        ran_now m =
+            elim m.5 [
+              | inl j ↦ traced_mended w funcs Q closed t u room first inner heap other Done so (as_now j.0) j.1
+              | inr j ↦
+                  subst (λ z. traced w funcs room first (with_reads z items again) other u Done) (sym es)
+                  (subst (λ z. traced w funcs z first (with_reads saved items again) other u Done) (sym rl) (j.1 x rest row items first labelled here))
+            ]
+
+        block_walks : (r c : Rec M) (n : ℕ) → Olden p (S before r) → Named p (S now c) → traced w funcs room rest env (writes t ++ heap) r Done → CutMended w funcs Q other (S before r) (S now c) n → Walks_to p zs (S before r) (S now c) n (after (Block number saw first inner'))
+        block_walks r c n old named next (inl cut) =
+            broken (block_runs number saw first inner inner' envs scope so k) before r now c n cut.1
+            (node_walks n (left_olden p before r old) (left_named p now c named) cut.0)
+        block_walks r c n old named next (inr cut) =
+            let m = cut.0 in
+            let one = node_walks 0 (left_olden p before r old) (left_named p now c named) (mended_cut w funcs Q other before now Done m) in
+            let ran_it = ran_now m in
+            let y = whole room first inner inner' other over (p ++ 0 ∷ 2 ∷ []) u Done envs at.heaps (turned_named p 2 u (left_named p now c named)) ran_it in
+            let alike : Recs T now (R room number env' saw y.rec) = (sym (rl ∙ m.0), sym (nl ∙ m.1), subst (λ z. Envs T z env') (es ∙ m.2) at.envs, seen, y.alike) in
+            rest_walks (block_runs number saw first inner inner' envs scope so k) k.2 before now (R room number env' saw y.rec) alike (ap (λ (z : Ran Name Heap). z.end) y.gives) (ap (λ (z : Ran Name Heap). z.heap) y.gives) (wrote K (λ a i. i) first inner other u Done scope at.reach ran_it) one r c n (right_olden p before r old) (right_named p now c named) next cut.1
+
+      module _ (left right : List Stmt) (lq : Q left) (rq : Q right) (k : goes (Sides left right)) where
+        abbrev p0 : Path
+        p0 = p ++ 0 ∷ 0 ∷ []
+
+        abbrev p1 : Path
+        p1 = p ++ 0 ∷ 1 ∷ []
+
+        abbrev runs : Runs
+        runs = pair_runs p (λ a z. fs a left env' z p0) (λ a z. fs a right env' z p1)
+
+        abbrev left_tree : tree.Tree Name
+        left_tree = (fs plainly left env' h p0).tree
+
+        abbrev right_tree : tree.Tree Name
+        right_tree = (fs plainly right env' (fs plainly left env' h p0).heap p1).tree
+
+        left_good : Good (May k.0.names k.0.after.unwritten env' p0) (Target k.0.names k.0.after.unwritten env') h (λ a z. fs a left env' z p0)
+        left_good = sound left k.0.names k.0.after env' h p0 k.0.meets k.0.safe
+
+        right_good : Good (May k.1.names k.1.after.unwritten env' p1) (Target k.1.names k.1.after.unwritten env') h (λ a z. fs a right env' z p1)
+        right_good = sound right k.1.names k.1.after env' h p1 k.1.meets k.1.safe
+
+        -- the right side has the same tree behind the left side
+        behind_left : right_tree ≡ (fs plainly right env' h p1).tree
+        behind_left =
+            (right_good.frame plainly (fs plainly left env' h p0).heap plainly_reads_held (wider_first left_good plainly h plainly_reads_held (wider_same h))).tree
+
+        module _ (l j t u : Rec M) (first : traced w funcs room left env heap l Done) (second : traced w funcs room right env (writes l ++ heap) j Done) (old : Olden (p ++ 0 ∷ []) (P l j)) (named : Named (p ++ 0 ∷ []) (P t u)) where
+          left_in : Named p0 t
+          left_in = turned_named p 0 t (λ m z i. named m z (named_left (names ((p ++ 0 ∷ []) ++ 0 ∷ []) t) (names ((p ++ 0 ∷ []) ++ 1 ∷ []) u) m z i))
+
+          right_in : Named p1 u
+          right_in = turned_named p 1 u (λ m z i. named m z (named_right (names ((p ++ 0 ∷ []) ++ 0 ∷ []) t) (names ((p ++ 0 ∷ []) ++ 1 ∷ []) u) m z i))
+
+          left_was : Olden p0 l
+          left_was = turned_olden p 0 l (left_olden (p ++ 0 ∷ []) l j (as_parts (p ++ 0 ∷ []) l j old))
+
+          right_was : Olden p1 j
+          right_was = turned_olden p 1 j (right_olden (p ++ 0 ∷ []) l j (as_parts (p ++ 0 ∷ []) l j old))
+
+          left_walks : (n : ℕ) → CutMended w funcs Q other l t n → Walks_to p0 zs l t n left_tree
+          left_walks n cut =
+              walks K left k.0.names k.0.after env env' heap other over h p0 zs l t n lq k.0.meets (begins left k.0.names env env' p0 k.0.safe at.envs at.scope) left_was left_in first cut
+
+          abbrev ws : List Path
+          ws = redo_from p0 (old_of f l) left_tree zs
+
+          -- both sides, each by itself
+          beside : (a b : ℕ) → Walks_to p0 zs l t a left_tree → Walks_to p1 ws j u b (fs plainly right env' h p1).tree → Walks_to (p ++ 0 ∷ []) zs (P l j) (P t u) (a + b) (tree.P left_tree right_tree)
+          beside a b x y =
+              walked_sides w.same f g O (p ++ 0 ∷ []) zs l j t u a b left_tree right_tree (turned_walks p 0 zs l t a left_tree x)
+              (subst (λ z. Walks_to ((p ++ 0 ∷ []) ++ 1 ∷ []) z j u b right_tree) (sym (turned_redo p 0 zs l left_tree))
+              (subst (λ z. Walks_to ((p ++ 0 ∷ []) ++ 1 ∷ []) ws j u b z) (sym behind_left) (turned_walks p 1 ws j u b (fs plainly right env' h p1).tree y)))
+
+          pair_walks : (n : ℕ) → CutMended w funcs Q other (P l j) (P t u) n → Walks_to (p ++ 0 ∷ []) zs (P l j) (P t u) n (tree.P left_tree right_tree)
+          pair_walks n (inl cut) =
+              let here : Here K k.1.names env env' other over h p1 ws = record {
+                sets = at.sets;
+                safe = k.1.safe;
+                wider = at.wider;
+                envs = at.envs;
+                heaps = at.heaps;
+                scope = at.scope;
+                reach = at.reach;
+                known = λ m i. known_part f g O zs ws (redo_grows p0 (old_of f l) left_tree zs) m (at.known m i);
+              } in
+              let two = walks K right k.1.names k.1.after env env' (writes l ++ heap) other over h p1 ws j u cut.1 rq k.1.meets here right_was right_in second cut.3 in
+              subst (λ z. Walks_to (p ++ 0 ∷ []) zs (P l j) (P t u) z (tree.P left_tree right_tree)) cut.4 (beside cut.0 cut.1 (left_walks cut.0 cut.2) two)
+          pair_walks n (inr cut) =
+              let e = cut.0 in
+              let ran_it = traced_mended w funcs Q closed l t room left env heap other e lq first cut.1 in
+              let one = left_walks 0 (mended_cut w funcs Q other l t e cut.1) in
+              let x = whole room left env env' other over p0 t e at.envs at.heaps left_in ran_it in
+              let L : M → Type 0 = Or K (Makes t) in
+              let made = wrote K (λ m i. i) left env other t e at.scope at.reach ran_it in
+              let here : Here L k.1.names env env' (writes t ++ other) (writes x.rec ++ over) h p1 ws = record {
+                sets = λ m i. inl (at.sets m i);
+                safe = k.1.safe;
+                wider = subst (Wider h) (ap (λ (z : Ran Name Heap). z.heap) x.gives) (wider_first left_good plainly over plainly_reads_held at.wider);
+                envs = at.envs;
+                heaps = heaps_then T t x.rec other over x.alike at.heaps;
+                scope = env_on K L (λ m i. inl i) env at.scope;
+                reach = heap_both L (writes t) other made (heap_more K L (λ m i. inl i) other at.reach);
+                known = λ m i. elim i [
+                  | inl a ↦ known_part f g O zs ws (redo_grows p0 (old_of f l) left_tree zs) m (at.known m a)
+                  | inr a ↦ one.known m a
+                ];
+              } in
+              let two = walks L right k.1.names k.1.after env env' (writes l ++ heap) (writes t ++ other) (writes x.rec ++ over) h p1 ws j u n rq k.1.meets here right_was right_in second cut.2 in
+              subst (λ z. Walks_to (p ++ 0 ∷ []) zs (P l j) (P t u) z (tree.P left_tree right_tree)) (zero-add n) (beside 0 n one two)
+
+        sides_walks : (l j r t u c : Rec M) (n : ℕ) → traced w funcs room left env heap l Done → traced w funcs room right env (writes l ++ heap) j Done → traced w funcs room rest env (writes j ++ (writes l ++ heap)) r Done → Olden p (S (P l j) r) → Named p (S (P t u) c) → CutMended w funcs Q other (S (P l j) r) (S (P t u) c) n → Walks_to p zs (S (P l j) r) (S (P t u) c) n (after (Sides left right))
+        sides_walks l j r t u c n first second next old named (inl cut) =
+            broken runs (P l j) r (P t u) c n cut.1
+            (pair_walks l j t u first second (left_olden p (P l j) r old) (left_named p (P t u) c named) n cut.0)
+        sides_walks l j r t u c n first second next old named (inr cut) =
+            let m = cut.0 in
+            let there = left_olden p (P l j) r old in
+            let within = left_named p (P t u) c named in
+            let one = pair_walks l j t u first second there within 0 (mended_cut w funcs Q other (P l j) (P t u) Done m) in
+            let d = first_left m.0 m.1 m.4 in
+            let ran_left = traced_mended w funcs Q closed l t room left env heap other Done lq first (subst (Mended w funcs Q other l t) d.0 m.2) in
+            let ran_right = traced_mended w funcs Q closed j u room right env (writes l ++ heap) (writes t ++ other) Done rq second (subst (Mended w funcs Q (writes t ++ other) j u) d.1 m.3) in
+            let x = whole room left env env' other over p0 t Done at.envs at.heaps (left_in l j t u first second there within) ran_left in
+            let y = whole room right env env' (writes t ++ other) (writes x.rec ++ over) p1 u Done at.envs (heaps_then T t x.rec other over x.alike at.heaps) (right_in l j t u first second there within) ran_right in
+            let gives = pair_is (fs plainly left env' over p0) (λ z. fs plainly right env' z p1) x.rec y.rec over x.gives y.gives in
+            let L : M → Type 0 = Or K (Makes t) in
+            let All : M → Type 0 = Or K (Makes (P t u)) in
+            let made = wrote K (λ a i. i) left env other t Done at.scope at.reach ran_left in
+            let also = wrote L (λ a i. inl i) right env (writes t ++ other) u Done (env_on K L (λ a i. inl i) env at.scope) (heap_both L (writes t) other made (heap_more K L (λ a i. inl i) other at.reach)) ran_right in
+            let all : ReadsOf All (writes u ++ writes t) =
+            heap_both All (writes u) (writes t)
+            (heap_more (Or L (Makes u)) All (λ a i. elim i [ inl b ↦ elim b [ inl v ↦ inl v | inr v ↦ inr (inl v) ] | inr b ↦ inr (inr b) ]) (writes u) also)
+            (heap_more L All (λ a i. elim i [ inl b ↦ inl b | inr b ↦ inr (inl b) ]) (writes t) made) in
+            rest_walks runs k.2 (P l j) (P t u) (P x.rec y.rec) (x.alike, y.alike) (ap (λ (z : Ran Name Heap). z.end) gives) (ap (λ (z : Ran Name Heap). z.heap) gives ∙ sym (append_assoc (writes y.rec) (writes x.rec) over)) all one r c n (right_olden p (P l j) r old) (right_named p (P t u) c named)
+            (subst (λ z. traced w funcs room rest env z r Done) (sym (append_assoc (writes j) (writes l) heap)) next) cut.1
