@@ -483,3 +483,167 @@ module _ {M : Type 0} (T : M → Name → Type 0) (only : IsOnly T) (w : Setting
             (heap_more L All (λ a i. elim i [ inl b ↦ inl b | inr b ↦ inr (inl b) ]) (writes t) made) in
             rest_walks runs k.2 (P l j) (P t u) (P x.rec y.rec) (x.alike, y.alike) (ap (λ (z : Ran Name Heap). z.end) gives) (ap (λ (z : Ran Name Heap). z.heap) gives ∙ sym (append_assoc (writes y.rec) (writes x.rec) over)) all one r c n (right_olden p (P l j) r old) (right_named p (P t u) c named)
             (subst (λ z. traced w funcs room rest env z r Done) (sym (append_assoc (writes j) (writes l) heap)) next) cut.1
+
+      -- what stands inside a statement
+      abbrev Inside : Action M → Type 0
+      Inside (Body body inner) = Q body
+      Inside (Sides left right) = Q left × Q right
+      Inside _ = Unit {0}
+
+      bare_sides : (left right : List Stmt) (l j r c : Rec M) (n : ℕ) → CutMended w funcs Q other (S (P l j) r) (S E c) n → Walks_to p zs (S (P l j) r) (S E c) n (after (Sides left right))
+      bare_sides left right l j r c n (inl cut) =
+          subst (λ z. Walks_to p zs (S (P l j) r) (S E z) n (after (Sides left right))) (sym cut.1) (walked_bare w.same f g O p zs (P l j) r n (after (Sides left right)) cut.0)
+      bare_sides left right l j r c n (inr cut) = absurd cut.0
+
+      -- a statement that isn't a read
+      act_walks : (a : Action M) (b : Action Name) → AlikeAction T a b → AlikeAction (On K) a a → (IsBlock w funcs env a → ⊥) → Inside a → goes b → (r c : Rec M) (n : ℕ) → Olden p r → Named p c → acts room (traced w funcs room) a rest env heap r Done → CutMended w funcs Q other r c n → Walks_to p zs r c n (after b)
+      act_walks a b i s none so k r E n old named t cut = walked_none w.same f g O p zs r n (after b) cut
+      act_walks (Bind x v) (Bind z y) i s none so k r c n old named t cut = bind_walks x z v y i.0 i.1 s.1 k r c n old named t cut
+      act_walks (Make d) (Make e) i s none so k (A m r) (A l c) n old named t cut = make_walks d e i k m l r c n old named t cut
+      act_walks (Make d) (Make e) i s none so k (A m r) _ n old named t cut = absurd cut
+      act_walks (Make d) (Make e) i s none so k _ _ n old named t cut = absurd t
+      act_walks (Put m v) (Put b y) i s none so k (W a o r) (W l x c) n old named t cut = put_walks m b v y i.0 i.1 s.0 s.1 k a l o x r c n old named t cut
+      act_walks (Put m v) (Put b y) i s none so k (W a o r) _ n old named t cut = absurd cut
+      act_walks (Put m v) (Put b y) i s none so k _ _ n old named t cut = absurd t
+      act_walks (Body body inner) (Body body' inner') i s none so k (S a r) (S b c) n old named t cut =
+          let d = done_on t.0 rest env (writes a ++ heap) r t.2 in
+          body_walks body' inner inner' i.1 s.1 (subst Q i.0 so) k a r b c n old named
+          (subst (λ z. traced w funcs room z inner heap a Done) i.0 (subst (traced w funcs room body inner heap a) d.0 t.1)) d.1 cut
+      act_walks (Body body inner) (Body body' inner') i s none so k (S a r) _ n old named t cut = absurd cut
+      act_walks (Body body inner) (Body body' inner') i s none so k _ _ n old named t cut = absurd t
+      act_walks (Sides left right) (Sides left' right') i s none so k (S (P l j) r) (S (P a b) c) n old named t cut =
+          let d = done_on (first_stop t.0 t.1) rest env (writes j ++ (writes l ++ heap)) r t.4 in
+          let e = first_left t.0 t.1 d.0 in
+          sides_walks left' right' (subst Q i.0 so.0) (subst Q i.1 so.1) k l j r a b c n
+          (subst (λ z. traced w funcs room z env heap l Done) i.0 (subst (traced w funcs room left env heap l) e.0 t.2))
+          (subst (λ z. traced w funcs room z env (writes l ++ heap) j Done) i.1 (subst (traced w funcs room right env (writes l ++ heap) j) e.1 t.3)) d.1 old named cut
+      act_walks (Sides left right) (Sides left' right') i s none so k (S (P l j) r) (S E c) n old named t cut = bare_sides left' right' l j r c n cut
+      act_walks (Sides left right) (Sides left' right') i s none so k (S (P l j) r) (S _ c) n old named t cut = elim cut [ inl x ↦ absurd x.0 | inr x ↦ absurd x.0 ]
+      act_walks (Sides left right) (Sides left' right') i s none so k (S (P l j) r) _ n old named t cut = absurd cut
+      act_walks (Sides left right) (Sides left' right') i s none so k _ _ n old named t cut = absurd t
+      act_walks (Block number reads body inner) b i s none so k _ _ n old named t cut = absurd (none tt)
+      act_walks _ _ i s none so k _ _ n old named t cut = absurd i
+
+      abbrev gone : Result (Action Name) FaultKind → tree.Tree Name
+      gone o = (act_or_stop by_path (fs plainly) o line rest env' h p).tree
+
+      step_walks : (a : Action M) (o : Result (Action Name) FaultKind) → Agree (AlikeAction T) (Ok a) o → AlikeAction (On K) a a → (IsBlock w funcs env a → ⊥) → Inside a → Where goes o → (r c : Rec M) (n : ℕ) → Olden p r → Named p c → acts room (traced w funcs room) a rest env heap r Done → CutMended w funcs Q other r c n → Walks_to p zs r c n (gone o)
+      step_walks a (Ok b) i s none so k r c n old named t cut = act_walks a b i s none so k r c n old named t cut
+      step_walks a (Err why) i s none so k r c n old named t cut = absurd i
+
+      -- a read block that the new record has
+      read_walks : (x : Stmt) (row number : ℕ) (items : List ReadItem) (first : List Stmt) (again : Reads M) (o : Result (Action Name) FaultKind) → Agree (AlikeAction T) (Ok (Block number again first (with_reads env items again))) o → AlikeAction (On K) (Block number again first (with_reads env items again)) (Block number again first (with_reads env items again)) → Where goes o → out-Stmt x ≡ Stmt-F.Read row number items first → Q (x ∷ rest) → (level label depth tag : ℕ) (saved kept : Env M) (reads : Reads M) (t r u c : Rec M) (n : ℕ) → room ≡ level → number ≡ label → env ≡ saved → traced w funcs room first (with_reads env items reads) heap t Done → traced w funcs room rest env (writes t ++ heap) r Done → Olden p (S (R level label saved reads t) r) → Named p (S (R depth tag kept again u) c) → CutMended w funcs Q other (S (R level label saved reads t) r) (S (R depth tag kept again u) c) n → Walks_to p zs (S (R level label saved reads t) r) (S (R depth tag kept again u) c) n (gone o)
+      read_walks x row number items first again (Ok (Block number' saw first' inner')) i s k eq here level label depth tag saved kept reads t r u c n rl nl es stands next old named cut =
+          let eq' : out-Stmt x ≡ Stmt-F.Read row number' items first' = subst (λ z. out-Stmt x ≡ Stmt-F.Read row number' items z) i.2 (subst (λ z. out-Stmt x ≡ Stmt-F.Read row z items first) i.0 eq) in
+          block_walks number' saw first' items again inner' i.3 s.3 (closed.block x rest row number' items first' eq' here) k x row eq' here i.1 s.1 level label depth tag saved kept reads rl (sym i.0 ∙ nl) es t u (subst (λ z. traced w funcs room z (with_reads env items reads) heap t Done) i.2 stands) r c n old named next cut
+      read_walks x row number items first again (Ok _) i s k eq here level label depth tag saved kept reads t r u c n rl nl es stands next old named cut = absurd i
+      read_walks x row number items first again (Err why) i s k eq here level label depth tag saved kept reads t r u c n rl nl es stands next old named cut = absurd i
+
+    -- a statement, told from what it asks for
+    module _ (K : M → Type 0) (x : Stmt) (rest : List Stmt) (st end : Standing) (env : Env M) (env' : Env Name) (heap other : HeapOf M) (over h : Heap) (p : Path) (zs : List Path) (meets : series (x ∷ rest) st ≡ Some end) (so : Q (x ∷ rest)) (at : Here K st env env' other over h p zs) where
+      abbrev line : ℕ
+      line = line_of (out-Stmt x)
+
+      abbrev asks : HeapOf M → Result (Action M) FaultKind
+      asks z = action_of (listed w) w funcs env z (out-Stmt x)
+
+      abbrev asks_named : Result (Action Name) FaultKind
+      asks_named = action_of by_path u' funcs env' h (out-Stmt x)
+
+      abbrev mid : Standing
+      mid = (steps x rest st end meets).mid
+
+      more : series rest mid ≡ Some end
+      more = (steps x rest st end meets).rest
+
+      goes_on_here : Where (Goes u' funcs fs sound line rest st mid end env' h p more at.safe) asks_named
+      goes_on_here = act_goes u' funcs checked fs sound line rest st mid end env' h p more at.safe (out-Stmt x) (steps x rest st end meets).first
+
+      -- over the new heap it asks for what the run by paths asks for, and for nothing that isn't known
+      alike : (o : Result (Action M) FaultKind) → asks other ≡ o → Agree (AlikeAction T) o asks_named
+      alike o e =
+          let same : action_of (listed u') u' funcs env' over (out-Stmt x) ≡ asks_named = action_is u' plain funcs env' over (out-Stmt x) ∙ asks_same u' env' funcs st h p at.safe plainly over plainly_reads_held at.wider (out-Stmt x) mid (steps x rest st end meets).first in
+          subst (λ z. Agree (AlikeAction T) z asks_named) e
+          (subst (Agree (AlikeAction T) (asks other)) same
+          (action_alike T (listed w) (listed u') w u' funcs env env' other over settings tests at.envs (λ m k i. held_alike T w.same u'.same tests other over m k at.heaps i) (out-Stmt x)))
+
+      itself : (a : Action M) → asks other ≡ Ok a → AlikeAction (On K) a a
+      itself a e =
+          subst (λ z. Agree (AlikeAction (On K)) z (Ok a)) e
+          (subst (Agree (AlikeAction (On K)) (asks other)) e
+          (action_alike (On K) (listed w) (listed w) w w funcs env env other other (inputs_on K at.sets) (tests_on K) at.scope (λ m k i. held_alike (On K) w.same w.same (tests_on K) other other m k at.reach i) (out-Stmt x)))
+
+      -- what it asks for stands in the program
+      inside : (a : Action M) → asks heap ≡ Ok a → Inside K line rest st mid end env env' heap other over h p zs more (closed.tail x rest so) at a
+      inside a e = by a (out-Stmt x) refl (asked w funcs env heap (out-Stmt x) a e)
+        where
+          by : (a : Action M) (s : Stmt-F Stmt) → out-Stmt x ≡ s → Asked w funcs env heap s a → Inside K line rest st mid end env env' heap other over h p zs more (closed.tail x rest so) at a
+          by (Body body inner) (Stmt-F.If row e first second) eq (inl i) = subst Q i (closed.first x rest row e first second eq so)
+          by (Body body inner) (Stmt-F.If row e first second) eq (inr i) = subst Q i (closed.second x rest row e first second eq so)
+          by (Body body inner) (Stmt-F.Call row i values dests) eq z = subst Q z.2 (closed.called i z.0 z.1)
+          by (Body body inner) _ eq z = absurd z
+          by (Sides left right) (Stmt-F.Par row one two) eq z = (subst Q z.0 (closed.left x rest row one two eq so), subst Q z.1 (closed.right x rest row one two eq so))
+          by (Sides left right) _ eq z = absurd z
+          by _ s eq z = tt
+
+      abbrev Steps : Rec M → Rec M → ℕ → Type 0
+      Steps r c n = Walks_to p zs r c n (act_or_stop by_path (fs plainly) asks_named line rest env' h p).tree
+
+      plain_step : (a : Action M) → asks heap ≡ Ok a → (IsBlock w funcs env a → ⊥) → (r c : Rec M) (n : ℕ) → Olden p r → Named p c → acts room (traced w funcs room) a rest env heap r Done → CutMended w funcs Q other r c n → Steps r c n
+      plain_step a e none r c n old named t cut =
+          elim (asked_there w funcs env heap other (out-Stmt x) a e) [
+            | inl i ↦
+                step_walks K line rest st mid end env env' heap other over h p zs more (closed.tail x rest so) at a asks_named (alike (Ok a) i) (itself a i) none (inside a e) goes_on_here r c n old named t cut
+            | inr i ↦ absurd (none i)
+          ]
+
+      bare_block : (level label : ℕ) (saved : Env M) (reads : Reads M) (t r c : Rec M) (n : ℕ) → CutMended w funcs Q other (S (R level label saved reads t) r) (S E c) n → Steps (S (R level label saved reads t) r) (S E c) n
+      bare_block level label saved reads t r c n (inl cut) =
+          subst (λ z. Steps (S (R level label saved reads t) r) (S E z) n) (sym cut.1) (walked_bare w.same f g O p zs (R level label saved reads t) r n _ cut.0)
+      bare_block level label saved reads t r c n (inr cut) = absurd cut.0
+
+      -- the reads of the new record are those of the statement over the new heap
+      sees_of : (level label depth tag : ℕ) (saved kept : Env M) (reads again : Reads M) (t r u c : Rec M) (n : ℕ) → CutMended w funcs Q other (S (R level label saved reads t) r) (S (R depth tag kept again u) c) n → (read_names reads ≡ read_names again) × Sees w.same other again
+      sees_of level label depth tag saved kept reads again t r u c n (inl cut) = (cut.0.3, cut.0.4)
+      sees_of level label depth tag saved kept reads again t r u c n (inr cut) = (cut.0.3, cut.0.4)
+
+      read_step : (s : Stmt-F Stmt) → out-Stmt x ≡ s → (number : ℕ) (reads : Reads M) (first : List Stmt) (inner : Env M) → Asked w funcs env heap s (Block number reads first inner) → (r c : Rec M) (n : ℕ) → Olden p r → Named p c → acts room (traced w funcs room) (Block number reads first inner) rest env heap r Done → CutMended w funcs Q other r c n → Steps r c n
+      read_step s eq number reads first inner z r E n old named t cut = walked_none w.same f g O p zs r n _ cut
+      read_step (Stmt-F.Read row label items body) eq number reads first inner z (S (R level tag saved seen t) r) (S (R depth mark kept again u) c) n old named k cut =
+          let eq' : out-Stmt x ≡ Stmt-F.Read row number items first = subst (λ b. out-Stmt x ≡ Stmt-F.Read row number items b) z.1 (subst (λ b. out-Stmt x ≡ Stmt-F.Read row b items body) z.0 eq) in
+          let d = k.4 in
+          let e = done_on d.0 rest env (writes t ++ heap) r d.2 in
+          let sees = sees_of level tag depth mark saved kept seen again t r u c n cut in
+          let had : in_order (map (read_of (listed w) w env heap) items) ≡ Ok seen = z.2 ∙ ap Ok k.3 in
+          let has = reads_there w env heap other items seen again had sees.0 sees.1 in
+          let a = Block number again first (with_reads env items again) in
+          let now : asks other ≡ Ok a = ap (action_of (listed w) w funcs env other) eq' ∙ ap (λ o. o >>= λ rs. Ok (Block number rs first (with_reads env items rs))) has in
+          let ran_it : traced w funcs room first (with_reads env items seen) heap t Done = subst (λ b. traced w funcs room first (with_reads env items b) heap t Done) k.3 (subst (λ b. traced w funcs room first b heap t Done) (sym z.3) (subst (traced w funcs room first inner heap t) e.0 d.1)) in
+          read_walks K line rest st mid end env env' heap other over h p zs more (closed.tail x rest so) at x row number items first again asks_named (alike (Ok a) now) (itself a now) goes_on_here eq' so level tag depth mark saved kept seen t r u c n k.0 k.1 k.2 ran_it e.1 old named cut
+      read_step (Stmt-F.Read row label items body) eq number reads first inner z (S (R level tag saved seen t) r) (S E c) n old named k cut = bare_block level tag saved seen t r c n cut
+      read_step (Stmt-F.Read row label items body) eq number reads first inner z (S (R level tag saved seen t) r) (S _ c) n old named k cut =
+          elim cut [ inl b ↦ absurd b.0 | inr b ↦ absurd b.0 ]
+      read_step (Stmt-F.Read row label items body) eq number reads first inner z (S (R level tag saved seen t) r) _ n old named k cut = absurd cut
+      read_step (Stmt-F.Read row label items body) eq number reads first inner z _ _ n old named k cut = absurd k
+      read_step _ eq number reads first inner z _ _ n old named k cut = absurd z
+
+      any_step : (o : Result (Action M) FaultKind) → asks heap ≡ o → (r c : Rec M) (n : ℕ) → Olden p r → Named p c → acts_or_stops room (traced w funcs room) o line rest env heap r Done → CutMended w funcs Q other r c n → Steps r c n
+      any_step (Err why) e r c n old named t cut = not_done why line t.1
+      any_step (Ok (Block number reads first inner)) e r c n old named t cut =
+          read_step (out-Stmt x) refl number reads first inner (asked w funcs env heap (out-Stmt x) (Block number reads first inner) e) r c n old named t cut
+      any_step (Ok a) e r c n old named t cut = plain_step a e (λ i. i) r c n old named t cut
+
+  end_walks : (p : Path) (zs : List Path) (other : HeapOf M) (r c : Rec M) (n : ℕ) (new : tree.Tree Name) → r ≡ E → CutMended w funcs Q other r c n → Walks_to p zs r c n new
+  end_walks p zs other r c n new e cut = subst (λ z. Walks_to p zs z c n new) (sym e) (by c (subst (λ z. CutMended w funcs Q other z c n) e cut))
+    where
+      by : (d : Rec M) → CutMended w funcs Q other E d n → Walks_to p zs E d n new
+      by E i = walked_none w.same f g O p zs E n new i
+      by _ i = absurd i
+
+  pub walk : ((i : ℕ) (c : Func) → func_named i funcs ≡ Some c → MeetsSeries c) → (room : ℕ) → Walks room
+  unfolding traced
+  walk checked room K [] st end env env' heap other over h p zs r c n so meets at old named t cut = end_walks p zs other r c n _ t.0 cut
+  walk checked zero K (x ∷ rest) st end env env' heap other over h p zs r c n so meets at old named t cut = end_walks p zs other r c n _ t.0 cut
+  walk checked (suc room) K (x ∷ rest) st end env env' heap other over h p zs r c n so meets at old named t cut =
+      rw (run_more by_path u' funcs room x rest env' h p)
+      (any_step checked room (walk checked room) K x rest st end env env' heap other over h p zs meets so at (action_of (listed w) w funcs env heap (out-Stmt x)) refl r c n old named t cut)
