@@ -4,3 +4,4 @@ pub mod Turned
 pub mod Differs
 pub mod Walked
 pub mod Walk
+pub mod Fresh

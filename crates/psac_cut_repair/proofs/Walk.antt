@@ -321,8 +321,8 @@ module _ {M : Type 0} (T : M → Name → Type 0) (only : IsOnly T) (w : Setting
 
       -- a read block whose reads the new record has
       module _ (number : ℕ) (saw : Reads Name) (first : List Stmt) (items : List ReadItem) (again : Reads M) (inner' : Env Name) (envs : Envs T (with_reads env items again) inner') (scope : Envs (On K) (with_reads env items again) (with_reads env items again)) (so : Q first) (k : goes (Block number saw first inner')) (x : Stmt) (row : ℕ) (eq : out-Stmt x ≡ Stmt-F.Read row number items first) (here : Q (x ∷ rest)) (seen : Each (AlikeRead T) again saw) (reach : ReadsOf K again) (level label depth tag : ℕ) (saved kept : Env M) (reads : Reads M) (rl : room ≡ level) (nl : number ≡ label) (es : env ≡ saved) (t u : Rec M) (stands : traced w funcs room first (with_reads env items reads) heap t Done) where
-        abbrev inner : Env M
-        inner = with_reads env items again
+        abbrev now_env : Env M
+        now_env = with_reads env items again
 
         abbrev before : Rec M
         before = R level label saved reads t
@@ -333,23 +333,23 @@ module _ {M : Type 0} (T : M → Name → Type 0) (only : IsOnly T) (w : Setting
         labelled : out-Stmt x ≡ Stmt-F.Read row label items first
         labelled = subst (λ z. out-Stmt x ≡ Stmt-F.Read row z items first) nl eq
 
-        as_now : reads ≡ again → traced w funcs room first inner heap t Done
+        as_now : reads ≡ again → traced w funcs room first now_env heap t Done
         as_now e = subst (λ z. traced w funcs room first (with_reads env items z) heap t Done) e stands
 
-        node_walks : (n : ℕ) → Olden (p ++ 0 ∷ []) before → Named (p ++ 0 ∷ []) now → CutMended w funcs Q other before now n → Walks_to (p ++ 0 ∷ []) zs before now n (block_runs number saw first inner inner' envs scope so k plainly h).tree
+        node_walks : (n : ℕ) → Olden (p ++ 0 ∷ []) before → Named (p ++ 0 ∷ []) now → CutMended w funcs Q other before now n → Walks_to (p ++ 0 ∷ []) zs before now n (block_runs number saw first now_env inner' envs scope so k plainly h).tree
         node_walks n old named cut =
             elim cut.5 [
-              | inl j ↦ like_walks number saw first inner inner' envs scope so k level label depth tag saved kept reads again seen reach t u n old named j.0 (as_now j.0) j.1
+              | inl j ↦ like_walks number saw first now_env inner' envs scope so k level label depth tag saved kept reads again seen reach t u n old named j.0 (as_now j.0) j.1
               | inr j ↦
-                  again_walks number saw first inner inner' envs scope so k level label depth tag saved kept reads again seen reach t u n old named j.0
+                  again_walks number saw first now_env inner' envs scope so k level label depth tag saved kept reads again seen reach t u n old named j.0
                   (subst (λ z. cut_short w funcs room first (with_reads z items again) other u n) (sym es)
                   (subst (λ z. cut_short w funcs z first (with_reads saved items again) other u n) (sym rl) (j.1 x rest row items first labelled here)))
             ]
 
-        ran_now : Mended w funcs Q other before now Done → traced w funcs room first inner other u Done
+        ran_now : Mended w funcs Q other before now Done → traced w funcs room first now_env other u Done
         ran_now m =
             elim m.5 [
-              | inl j ↦ traced_mended w funcs Q closed t u room first inner heap other Done so (as_now j.0) j.1
+              | inl j ↦ traced_mended w funcs Q closed t u room first now_env heap other Done so (as_now j.0) j.1
               | inr j ↦
                   subst (λ z. traced w funcs room first (with_reads z items again) other u Done) (sym es)
                   (subst (λ z. traced w funcs z first (with_reads saved items again) other u Done) (sym rl) (j.1 x rest row items first labelled here))
@@ -357,15 +357,15 @@ module _ {M : Type 0} (T : M → Name → Type 0) (only : IsOnly T) (w : Setting
 
         block_walks : (r c : Rec M) (n : ℕ) → Olden p (S before r) → Named p (S now c) → traced w funcs room rest env (writes t ++ heap) r Done → CutMended w funcs Q other (S before r) (S now c) n → Walks_to p zs (S before r) (S now c) n (after (Block number saw first inner'))
         block_walks r c n old named next (inl cut) =
-            broken (block_runs number saw first inner inner' envs scope so k) before r now c n cut.1
+            broken (block_runs number saw first now_env inner' envs scope so k) before r now c n cut.1
             (node_walks n (left_olden p before r old) (left_named p now c named) cut.0)
         block_walks r c n old named next (inr cut) =
             let m = cut.0 in
             let one = node_walks 0 (left_olden p before r old) (left_named p now c named) (mended_cut w funcs Q other before now Done m) in
             let ran_it = ran_now m in
-            let y = whole room first inner inner' other over (p ++ 0 ∷ 2 ∷ []) u Done envs at.heaps (turned_named p 2 u (left_named p now c named)) ran_it in
+            let y = whole room first now_env inner' other over (p ++ 0 ∷ 2 ∷ []) u Done envs at.heaps (turned_named p 2 u (left_named p now c named)) ran_it in
             let alike : Recs T now (R room number env' saw y.rec) = (sym (rl ∙ m.0), sym (nl ∙ m.1), subst (λ z. Envs T z env') (es ∙ m.2) at.envs, seen, y.alike) in
-            rest_walks (block_runs number saw first inner inner' envs scope so k) k.2 before now (R room number env' saw y.rec) alike (ap (λ (z : Ran Name Heap). z.end) y.gives) (ap (λ (z : Ran Name Heap). z.heap) y.gives) (wrote K (λ a i. i) first inner other u Done scope at.reach ran_it) one r c n (right_olden p before r old) (right_named p now c named) next cut.1
+            rest_walks (block_runs number saw first now_env inner' envs scope so k) k.2 before now (R room number env' saw y.rec) alike (ap (λ (z : Ran Name Heap). z.end) y.gives) (ap (λ (z : Ran Name Heap). z.heap) y.gives) (wrote K (λ a i. i) first now_env other u Done scope at.reach ran_it) one r c n (right_olden p before r old) (right_named p now c named) next cut.1
 
       module _ (left right : List Stmt) (lq : Q left) (rq : Q right) (k : goes (Sides left right)) where
         abbrev p0 : Path

@@ -1,3 +1,5 @@
 pub mod CutMended
 pub mod Based
 pub mod Creates
+pub mod Update
+pub mod Modes
