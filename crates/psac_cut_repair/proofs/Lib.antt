@@ -5,3 +5,5 @@ pub mod Differs
 pub mod Walked
 pub mod Walk
 pub mod Fresh
+pub mod Sizes
+pub mod Modes
