@@ -1,5 +1,5 @@
 -- The steps by which a walk of a repair adds up what it left where it was cut short, each over every heap that has a base.
-use Rattle.std.proofs.Common.{◌≡◌, ℕ, ◌+◌, true, List, ◌∷◌, ◌++◌, [], refl, subst, inl, inr}
+use Rattle.std.proofs.Common.{◌≡◌, ℕ, ◌+◌, true, List, ◌∷◌, ◌++◌, [], refl, subst, inl, inr, add-zero}
 use Rattle.psac_ops.specs.Value.{Value}
 use Rattle.psac_syntax.specs.declared.program.Stmt.{Stmt, out-Stmt}
 use Rattle.psac_syntax.specs.declared.program.Stmt.TheOpen.{Stmt-F}
@@ -19,7 +19,6 @@ use Rattle.psac_traced.proofs.Kept.{kept_mended}
 use Rattle.psac_cut.specs.CutShort.{cut_short}
 use Rattle.psac_cut.specs.Based.{Wider, CutOn}
 use Rattle.psac_cut.proofs.Based.{wider_front}
-use Rattle.psac_cut_repair.specs.CutMended.{CutMended}
 use Rattle.psac_cut_repair.specs.Based.{Comes, CutMends}
 use Rattle.psac_cut_repair.proofs.Cutting.{mended_cut}
 
@@ -62,7 +61,10 @@ module _ {N : Type 0} (w : Setting N) (funcs : List Func) (Q : List Stmt → Typ
     behind_part t old u new n m c =
         record { run = λ other wi. inr (m other wi, c.run (writes u ++ other) (wider_front w.same (writes u) base other wi)) }
 
-    -- both sides of a par at once, and the right one behind the left one
+    -- the left side of a par whose right side wasn't reached, both sides at once, and the right one behind the left one
+    pub left_side : (l k t : Rec N) (n : ℕ) → CutMends w funcs Q base l t n → CutMends w funcs Q base (P l k) (P t E) n
+    left_side l k t n c = record { run = λ other wi. inl (n, 0, c.run other wi, refl, add-zero n) }
+
     pub both_sides : (l k t u : Rec N) (a b : ℕ) → CutMends w funcs Q base l t a → CutMends w funcs Q base k u b → CutMends w funcs Q base (P l k) (P t u) (a + b)
     both_sides l k t u a b c d = record { run = λ other wi. inl (a, b, c.run other wi, d.run other wi, refl) }
 
@@ -79,16 +81,18 @@ module _ {N : Type 0} (w : Setting N) (funcs : List Func) (Q : List Stmt → Typ
       pub in_rerun : (again : Reads N) (t u : Rec N) (n : ℕ) (items : List ReadItem) (first : List Stmt) → IsBlock number items first → read_names reads ≡ read_names again → Sees w.same base again → unlike w.same reads again ≡ true → CutOn w.same (cut_short w funcs room) first (with_reads saved items again) base u n → CutMends w funcs Q base (R room number saved reads t) (R room number saved again u) n
       in_rerun again t u n items first is names h other_ones c =
           record {
-            run = λ other wi.
-                (
-                  refl,
-                  refl,
-                  refl,
-                  names,
-                  sees_wider base other again wi h,
-                  inr (other_ones, λ s rest line others body eq q.
+            run = λ other wi. (
+              refl,
+              refl,
+              refl,
+              names,
+              sees_wider base other again wi h,
+              inr (
+                other_ones,
+                λ s rest line others body eq q.
                     (let same = is s rest line others body eq q in
                     subst (λ z. cut_short w funcs room z (with_reads saved others again) other u n) same.1
-                    (subst (λ z. cut_short w funcs room first (with_reads saved z again) other u n) same.0 (c.run other wi)))),
-                );
+                    (subst (λ z. cut_short w funcs room first (with_reads saved z again) other u n) same.0 (c.run other wi))),
+              ),
+            );
           }

@@ -9,7 +9,7 @@ use Rattle.psac_model.specs.Tree.{Reads}
 use Rattle.psac_model.specs.Run.{with_reads}
 use Rattle.psac_naming.specs.Naming.{IsSameTest}
 use Rattle.psac_traced.specs.Rec.{Rec, E, A, W, S, P, R, HeapOf, writes}
-use Rattle.psac_traced.specs.Mending.{Mending, untouched, unlike, mended, anew, below}
+use Rattle.psac_traced.specs.Mending.{Mending, unlike, mended, anew, below}
 use Rattle.psac_traced.specs.Mended.{Behind, Mended}
 use Rattle.psac_traced.specs.Repaired.{Grown, WhereLike}
 use Rattle.psac_traced.proofs.Kept.{kept_untouched, mended_grown}

@@ -1,5 +1,5 @@
 -- What a repair of a whole program that was cut short drew is at most what stands inside the blocks that the model runs again.
-use Rattle.std.proofs.Common.{◌≡◌, ℕ, Bool, true, List, [], ◌∷◌, ◌++◌, map, All, Contains, length, refl, ap, sym, ◌∙◌, subst, ◌⊎◌, inl, inr}
+use Rattle.std.proofs.Common.{◌≡◌, ℕ, List, [], ◌++◌, map, All, Contains, length, refl, ap, sym, ◌∙◌, subst, ◌⊎◌, inl, inr}
 use Rattle.psac_syntax.specs.declared.program.Stmt.{Stmt}
 use Rattle.psac_inputs.specs.Grid.{Grid}
 use Rattle.psac_model.specs.declared.ends.End.TheVariants.{Done}
@@ -12,7 +12,7 @@ use Rattle.psac_model.specs.Work.{counted}
 use Rattle.psac_model.specs.Fresh.{World, fresh, setting, levels, main_env, grid_heap}
 use Rattle.psac_naming.specs.Alike.{Envs, Settings}
 use Rattle.psac_naming.specs.Naming.{Naming, IsNamed, IsOneToOne, IsSameTest, Unused}
-use Rattle.psac_naming.proofs.Namings.{named_left, named_right, named_either, tests_names}
+use Rattle.psac_naming.proofs.Namings.{named_left, named_right, tests_names}
 use Rattle.psac_naming.proofs.Trees.{envs_more, reads_more}
 use Rattle.psac_laws.specs.Standing.{series_of, params}
 use Rattle.psac_laws.proofs.Good.{wider_same}

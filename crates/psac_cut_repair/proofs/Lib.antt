@@ -5,5 +5,6 @@ pub mod Differs
 pub mod Walked
 pub mod Walk
 pub mod Fresh
+pub mod Drawn
 pub mod Sizes
 pub mod Modes

@@ -1,5 +1,5 @@
 -- What the model says of the commit that a repair was made for.
-use Rattle.std.proofs.Common.{◌≡◌, ◌≤◌, ◌<◌, ℕ, ◌+◌, Bool, true, false, ◌&&◌, nat_lt, nat_le, List, [], ◌++◌, refl, ap, sym, ◌∙◌, subst, arith}
+use Rattle.std.proofs.Common.{◌≡◌, ◌≤◌, ◌<◌, ℕ, ◌+◌, Bool, true, false, ◌&&◌, nat_lt, nat_le, [], ◌++◌, refl, ap, sym, ◌∙◌, subst, arith}
 use Rattle.std.proofs.lemmas.Bool.Decides.{nat_tests}
 use Rattle.psac_inputs.specs.Grid.{Grid}
 use Rattle.psac_model.specs.declared.ends.Size.{Size}
@@ -8,16 +8,15 @@ use Rattle.psac_model.specs.declared.ends.CapKind.{CapKind}
 use Rattle.psac_model.specs.declared.ends.CapKind.TheVariants.{Nodes, Mods, Links}
 use Rattle.psac_model.specs.declared.ends.End.{End}
 use Rattle.psac_model.specs.declared.ends.End.TheVariants.{Done}
-use Rattle.psac_model.specs.declared.ends.Mode.TheVariants.{Repair, Anew}
 use Rattle.psac_model.specs.declared.ends.Work.{Work}
 use Rattle.psac_model.specs.Tree.{size_of, add_size}
 use Rattle.psac_model.specs.Fresh.{World, fresh, over, nodes_of, judged, ended, setting}
 use Rattle.psac_model.specs.Redo.{redo}
-use Rattle.psac_model.specs.Work.{fits, repair_of, work_in}
+use Rattle.psac_model.specs.Work.{fits, repair_of}
 use Rattle.psac_laws.proofs.Checked.{is_checked}
-use Rattle.psac_traced.specs.Bodies.{IsCode, itself}
+use Rattle.psac_traced.specs.Bodies.{itself}
 use Rattle.psac_traced.specs.Rec.{Rec, tree_of}
-use Rattle.psac_traced.specs.Serial.{Serial, Repairs as IsRepair}
+use Rattle.psac_traced.specs.Serial.{Serial}
 use Rattle.psac_traced.specs.Places.{names}
 use Rattle.psac_traced.specs.Mending.{mended, work_of}
 use Rattle.psac_traced.proofs.Bodies.{code_closed}

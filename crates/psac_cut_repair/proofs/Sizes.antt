@@ -1,5 +1,5 @@
 -- The record that a repair left, also one that stopped, has at most what the old one has and what was made.
-use Rattle.std.proofs.Common.{◌≡◌, ◌≤◌, ℕ, ◌+◌, Bool, true, false, if◌then◌else◌, List, ◌∷◌, ◌++◌, length, refl, ap, sym, ◌∙◌, subst, inl, inr, arith}
+use Rattle.std.proofs.Common.{◌≡◌, if◌then◌else◌, List, ◌∷◌, ◌++◌, length, ap, sym, ◌∙◌, subst, inl, inr, arith}
 use Rattle.std.proofs.lemmas.List.{length-map}
 use Rattle.psac_ops.specs.Value.{Value}
 use Rattle.psac_syntax.specs.declared.program.Stmt.{Stmt}
@@ -12,7 +12,7 @@ use Rattle.psac_model.specs.Tree.{Reads, size_of, no_size, add_size, one_s, one_
 use Rattle.psac_naming.specs.Naming.{IsSameTest}
 use Rattle.psac_traced.specs.Rec.{Rec, E, A, W, S, P, R, HeapOf, writes, tree_of}
 use Rattle.psac_traced.specs.Holds.{read_names}
-use Rattle.psac_traced.specs.Mending.{Mending, unlike, mended, anew, below}
+use Rattle.psac_traced.specs.Mending.{unlike, mended, anew, below}
 use Rattle.psac_traced.specs.Mended.{Behind, Mended}
 use Rattle.psac_cut.specs.Within.{IsWithin}
 use Rattle.psac_cut_repair.proofs.Cutting.{like_itself}

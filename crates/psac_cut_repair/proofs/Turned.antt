@@ -1,5 +1,5 @@
 -- What the walk over two trees adds to the blocks so far stands at its path or below it.
-use Rattle.std.proofs.Common.{◌≡◌, Bool, true, false, if◌then◌else◌, List, [], ◌∷◌, ◌++◌, refl, ap, sym, ◌∙◌, inl, inr, append_assoc, append-nil}
+use Rattle.std.proofs.Common.{◌≡◌, true, false, if◌then◌else◌, List, [], ◌∷◌, ◌++◌, ap, sym, ◌∙◌, inl, inr, append_assoc, append-nil}
 use Rattle.std.proofs.lemmas.List.Folds.{list_any-append}
 use Rattle.psac_model.specs.Names.{Path, Name, Input, Out, Rows, Made}
 use Rattle.psac_model.specs.Tree.{Tree}

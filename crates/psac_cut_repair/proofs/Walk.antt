@@ -1,6 +1,6 @@
 -- The walk over an old record that a run left, while the run by paths goes over the new heap: what a repair that was cut short drew is at most what
 -- stands inside the blocks that are run again there, of statements that meet the series rule.
-use Rattle.std.proofs.Common.{◌≡◌, ℕ, suc, zero, ◌+◌, Bool, true, false, not, List, [], ◌∷◌, ◌++◌, map, Some, Result, Ok, Err, refl, ap, sym, ◌∙◌, subst, ◌⊎◌, inl, inr, append_assoc, zero-add}
+use Rattle.std.proofs.Common.{◌≡◌, ℕ, suc, zero, ◌+◌, Bool, true, false, List, [], ◌∷◌, ◌++◌, map, Some, Result, Ok, Err, refl, ap, sym, ◌∙◌, subst, inl, inr, append_assoc, zero-add}
 use Rattle.psac_ops.specs.Value.{Value, ref}
 use Rattle.psac_ops.specs.Table.{◌>>=◌}
 use Rattle.psac_syntax.specs.declared.program.Stmt.{Stmt, out-Stmt}
@@ -15,11 +15,10 @@ use Rattle.psac_model.specs.Expression.{Setting, in_order}
 use Rattle.psac_model.specs.Tree.{Reads, size_of}
 use Rattle.psac_model.specs.Tree as tree
 use Rattle.psac_model.specs.Redo.{made_inside, reads_differ, redo_from}
-use Rattle.psac_model.specs.Run.{Ran, Manner, Deeper, Action, Bind, Make, Put, Body, Block, Sides, action_of, read_of, with_reads, line_of, first_stop, act, act_or_stop, sequence, both, under, plainly, by_path, by_path_in, run, run_none, run_full, run_more, func_named}
+use Rattle.psac_model.specs.Run.{Ran, Manner, Deeper, Action, Bind, Make, Put, Body, Block, Sides, action_of, read_of, with_reads, line_of, first_stop, act, act_or_stop, sequence, both, under, plainly, by_path, by_path_in, run, run_more, func_named}
 use Rattle.psac_naming.specs.Alike.{Agree, Alike, AlikeRead, Each, Envs, Settings, Tests}
 use Rattle.psac_naming.specs.Naming.{IsNamed, IsSameTest}
 use Rattle.psac_naming.proofs.Actions.{AlikeAction, action_alike, bind_alike}
-use Rattle.psac_naming.proofs.Names.{and_is}
 use Rattle.psac_naming.proofs.Namings.{named_left, named_right}
 use Rattle.psac_naming.proofs.Trees.{envs_more}
 use Rattle.psac_laws.specs.Standing.{Standing, series, MeetsSeries}
@@ -33,14 +32,14 @@ use Rattle.psac_laws.proofs.Asks.{asks_same}
 use Rattle.psac_laws.proofs.Acts.{Sound, Goes, Part, rest_safe}
 use Rattle.psac_laws.proofs.Sound.{act_goes, run_sound}
 use Rattle.psac_traced.specs.Rec.{Rec, E, A, W, S, P, R, HeapOf, writes, tree_of}
-use Rattle.psac_traced.specs.Traced.{Traces, listed, goes_on, acts, acts_or_stops, traced}
+use Rattle.psac_traced.specs.Traced.{listed, goes_on, acts, acts_or_stops, traced}
 use Rattle.psac_traced.specs.Renamed.{Heaps, Recs, IsOnly, reads_named}
 use Rattle.psac_traced.specs.Places.{names, Makes}
 use Rattle.psac_traced.specs.Scoped.{On, Or, ReadsOf, Reading}
 use Rattle.psac_traced.specs.Holds.{read_names, Sees}
 use Rattle.psac_traced.specs.Parts.{IsClosed}
 use Rattle.psac_traced.specs.Mending.{unlike}
-use Rattle.psac_traced.specs.Mended.{Reran, Mended}
+use Rattle.psac_traced.specs.Mended.{Mended}
 use Rattle.psac_traced.proofs.Again.{not_done, first_left, reads_there}
 use Rattle.psac_traced.proofs.Alike.{each_append, held_alike, heaps_then, reads_image}
 use Rattle.psac_traced.proofs.Asked.{Asked, IsBlock, asked, asked_there}
@@ -50,9 +49,8 @@ use Rattle.psac_traced.proofs.Paths.{ran, action_is, traced_is}
 use Rattle.psac_traced.proofs.Places.{names_tied, alike_placed}
 use Rattle.psac_traced.proofs.Scoped.{heap_more, traced_scoped}
 use Rattle.psac_cut.specs.CutShort.{cut_short}
-use Rattle.psac_cut.specs.Within.{drew, IsWithin}
 use Rattle.psac_cut.proofs.Within.{cut_bound}
-use Rattle.psac_cut_repair.specs.CutMended.{CutAgain, CutMended}
+use Rattle.psac_cut_repair.specs.CutMended.{CutMended}
 use Rattle.psac_cut_repair.proofs.Cutting.{like_itself, mended_cut}
 use Rattle.psac_cut_repair.proofs.Turned.{redo_grows}
 use Rattle.psac_cut_repair.proofs.Differs.{unlike_differ}

@@ -1,6 +1,6 @@
 -- What the walk over an old record tells of a part of it: what was drawn is at most what stands inside the blocks that are run again in the new
 -- tree, and what the new record made is known by its names. Each step of the walk adds up.
-use Rattle.std.proofs.Common.{◌≡◌, ◌≤◌, ℕ, ◌+◌, Bool, true, false, if◌then◌else◌, List, [], ◌∷◌, ◌++◌, length, refl, ap, sym, ◌∙◌, subst, ◌⊎◌, inl, inr, arith, append_assoc, add-zero}
+use Rattle.std.proofs.Common.{◌≡◌, ℕ, ◌+◌, Bool, true, false, if◌then◌else◌, List, [], ◌∷◌, ◌++◌, length, refl, ap, sym, ◌∙◌, subst, ◌⊎◌, inl, inr, arith, add-zero}
 use Rattle.psac_model.specs.declared.ends.Size.{Size}
 use Rattle.psac_model.specs.declared.ends.End.{End}
 use Rattle.psac_model.specs.declared.ends.End.TheVariants.{Done, Stop}
@@ -8,7 +8,6 @@ use Rattle.psac_model.specs.Names.{Path, Name, Made, Env, Heap}
 use Rattle.psac_model.specs.Tree.{Tree, Reads, size_of, add_size, one_s, one_p, one_r, one_mod}
 use Rattle.psac_model.specs.Tree as tree
 use Rattle.psac_model.specs.Run.{Ran, sequence_by}
-use Rattle.psac_model.specs.Fresh.{nodes_of}
 use Rattle.psac_model.specs.Redo.{is_inside, made_inside, reads_differ, redo_from}
 use Rattle.psac_model.specs.Work.{part, counted}
 use Rattle.psac_naming.specs.Naming.{IsNamed}
@@ -48,12 +47,9 @@ module _ {M : Type 0} (f g : M → Name) (O : M → Type 0) where
   known_part zs ws within k (inl h) = inl h
   known_part zs ws within k (inr h) = inr (name_part zs ws within (g k) h)
 
-module _ {M : Type 0} (same : M → M → Bool) (f g : M → Name) (O : M → Type 0) where
-  pub record Walked (p : Path) (zs : List Path) (r c : Rec M) (n : ℕ) (new : Tree Name) : Type 0 where
-    pub within : (test : Path → Bool) → ((q : Path) → is_inside (redo_from p (old_of f r) new zs) q ≡ true → test q ≡ true) → IsWithin (cut_drew same r c n) (counted test p new)
-    pub known : (k : M) → Makes c k → Known f g O (redo_from p (old_of f r) new zs) k
-
-  none_mended : (r : Rec M) → mended same r E ≡ untouched
+module _ {M : Type 0} (same : M → M → Bool) where
+  -- where nothing was reached, nothing was run again
+  pub none_mended : (r : Rec M) → mended same r E ≡ untouched
   none_mended E = refl
   none_mended (A m r) = refl
   none_mended (W m v r) = refl
@@ -61,11 +57,16 @@ module _ {M : Type 0} (same : M → M → Bool) (f g : M → Name) (O : M → Ty
   none_mended (P l r) = refl
   none_mended (R room b e reads t) = refl
 
+module _ {M : Type 0} (same : M → M → Bool) (f g : M → Name) (O : M → Type 0) where
+  pub record Walked (p : Path) (zs : List Path) (r c : Rec M) (n : ℕ) (new : Tree Name) : Type 0 where
+    pub within : (test : Path → Bool) → ((q : Path) → is_inside (redo_from p (old_of f r) new zs) q ≡ true → test q ≡ true) → IsWithin (cut_drew same r c n) (counted test p new)
+    pub known : (k : M) → Makes c k → Known f g O (redo_from p (old_of f r) new zs) k
+
   -- what wasn't reached, and a compound statement of which only the node was
   pub walked_none : (p : Path) (zs : List Path) (r : Rec M) (n : ℕ) (new : Tree Name) → n ≡ 0 → Walked p zs r E n new
   walked_none p zs r n new e =
       record {
-        within = λ test h. subst (λ (d : Mending M). IsWithin (add_size d.added (some_mods n)) (counted test p new)) (sym (none_mended r)) (nothing_within n (counted test p new) e);
+        within = λ test h. subst (λ (d : Mending M). IsWithin (add_size d.added (some_mods n)) (counted test p new)) (sym (none_mended same r)) (nothing_within n (counted test p new) e);
         known = λ k h. absurd h;
       }
 
@@ -73,8 +74,8 @@ module _ {M : Type 0} (same : M → M → Bool) (f g : M → Name) (O : M → Ty
   walked_bare p zs t r n new e =
       record {
         within = λ test h.
-            subst (λ (d : Mending M). IsWithin (add_size (add_size d.added (mended same r E).added) (some_mods n)) (counted test p new)) (sym (none_mended t))
-            (subst (λ (d : Mending M). IsWithin (add_size (add_size tree.no_size d.added) (some_mods n)) (counted test p new)) (sym (none_mended r)) (nothing_within n (counted test p new) e));
+            subst (λ (d : Mending M). IsWithin (add_size (add_size d.added (mended same r E).added) (some_mods n)) (counted test p new)) (sym (none_mended same t))
+            (subst (λ (d : Mending M). IsWithin (add_size (add_size tree.no_size d.added) (some_mods n)) (counted test p new)) (sym (none_mended same r)) (nothing_within n (counted test p new) e));
         known = λ k h. elim h [ inl i ↦ absurd i | inr i ↦ absurd i ];
       }
 
