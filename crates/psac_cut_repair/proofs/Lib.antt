@@ -8,3 +8,4 @@ pub mod Fresh
 pub mod Drawn
 pub mod Sizes
 pub mod Modes
+pub mod Reaching

@@ -112,6 +112,17 @@ module _ {M : Type 0} (w : World) (g h : Grid) (u : Update M w g h) where
   repairs new is m =
       (fresh_repaired w g u.setting u.same u.base u.one u.inputs u.unused u.env u.envs u.heap u.heaps h u.still u.other u.others (Code u) (code_closed w.program.funcs w.main.body) itself u.old new u.apart u.outside u.left_it is.distinct is.anew m).work
 
+-- beside the whole repair of the same record
+pub draws_less_than_whole : {M : Type 0} (w : World) (g h : Grid) (u : Update M w g h) (new whole : Rec M) (n : ℕ) → IsNew u new → CutsShort u new n → IsNew u whole → Repairs u whole Done → IsWithin (cut_drew u.setting.same u.old new n) (mended u.setting.same u.old whole).added
+draws_less_than_whole w g h u new whole n is cut fresh_one m =
+    let work = repairs w g h u whole fresh_one m in
+    let less = draws_less w g h u new n is cut in
+    record {
+      nodes = subst (λ z. nodes_of (cut_drew u.setting.same u.old new n) ≤ z) (sym (ap (λ (k : Work). k.nodes) work)) less.nodes;
+      mods = subst (λ z. (cut_drew u.setting.same u.old new n).mods ≤ z) (sym (ap (λ (k : Work). k.mods) work)) less.mods;
+      links = subst (λ z. (cut_drew u.setting.same u.old new n).links ≤ z) (sym (ap (λ (k : Work). k.links) work)) less.links;
+    }
+
 pub cut_draws_less : {M : Type 0} → CutDrawsLess M
 cut_draws_less w g h u new n is cut = draws_less w g h u new n is cut
 

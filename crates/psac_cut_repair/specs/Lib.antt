@@ -3,3 +3,4 @@ pub mod Based
 pub mod Creates
 pub mod Update
 pub mod Modes
+pub mod Reaching
