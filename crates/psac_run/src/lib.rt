@@ -8,8 +8,6 @@ mod open;
 mod refusal;
 mod serve;
 mod status;
-#[cfg(test)]
-mod tests;
 mod texts;
 mod top;
 

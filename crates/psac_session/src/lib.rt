@@ -10,6 +10,3 @@ mod turns;
 pub use end::SessionEnd;
 pub use first::once;
 pub use turns::session;
-
-#[cfg(test)]
-mod tests;

@@ -1,7 +1,7 @@
-use crate::SessionEnd;
-use crate::tests::programs::DOUBLE;
-use crate::tests::run::{CAPS, Opening, run};
+use crate::opening::{CAPS, Opening, run};
+use crate::programs::DOUBLE;
 use psac_base::{MemSink, MemSource};
+use psac_session::SessionEnd;
 use std::alloc::Global;
 use std::process::Abort;
 use std::test::Fail;

@@ -1,7 +1,7 @@
-use crate::SessionEnd;
-use crate::tests::programs::{COPY, DOUBLE, ROW_COUNT, SUM};
-use crate::tests::run::{CAPS, Opening, carried};
+use crate::opening::{CAPS, Opening, carried};
+use crate::programs::{COPY, DOUBLE, ROW_COUNT, SUM};
 use psac_model::Caps;
+use psac_session::SessionEnd;
 use std::alloc::Global;
 use std::process::Abort;
 use std::test::Fail;

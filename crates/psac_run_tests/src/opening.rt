@@ -3,7 +3,6 @@ ghost use Rattle.std.specs.Prelude.{◌≡◌, IfOk, true};
 ghost use Rattle.psac_engine.specs.Commit.{IsCap};
 ghost use Rattle.psac_engine.specs.Engine.{commits_in};
 
-use crate::{SessionEnd, session};
 use psac_base::{MemSink, MemSource, Sink, Source};
 use psac_check::{Checked, check};
 use psac_engine::Engine;
@@ -11,6 +10,7 @@ use psac_fork::{Crew, NoGate};
 use psac_inputs::{Grid, Interner, load_lines};
 use psac_lang::parse;
 use psac_model::Caps;
+use psac_session::{SessionEnd, session};
 use std::alloc::Global;
 use std::test::Fail;
 use std::thread::Threads;

@@ -1,5 +1,5 @@
-use crate::tests::programs::SUM;
-use crate::tests::run::{Opening, crew, opened};
+use crate::opening::{Opening, crew, opened};
+use crate::programs::SUM;
 use psac_engine::Answer;
 use psac_fork::NoGate;
 use psac_inputs::{Batch, Interner};

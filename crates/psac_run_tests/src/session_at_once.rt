@@ -1,9 +1,9 @@
-use crate::once;
-use crate::tests::programs::SUM;
-use crate::tests::run::{Opening, crew, opened};
+use crate::opening::{Opening, crew, opened};
+use crate::programs::SUM;
 use psac_fork::{Gate, Side};
 use psac_inputs::Interner;
 use psac_model::Caps;
+use psac_session::once;
 use std::sync::atomic::AtomicU64;
 use std::sync::atomic::Ordering::SeqCst;
 use std::test::Fail;

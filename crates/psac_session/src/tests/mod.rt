@@ -1,6 +1,0 @@
-mod full;
-mod gated;
-mod outside;
-mod programs;
-mod rows;
-mod run;
