@@ -14,11 +14,11 @@ use Rattle.psac_cut.specs.CutShort.{Cuts}
 use Rattle.psac_record.specs.Kept.{Kept, Stands, bare}
 use Rattle.psac_trace.specs.Rights.{Heap, In, Target, Ready}
 use Rattle.psac_trace.specs.Grown.{Made, Moves}
-use Rattle.psac_trace.specs.Told.{Ended, Good, Fault, Other, Tells, then_ended, bared}
-use Rattle.psac_trace.specs.Raising.{puts, Aged, Raisable, Warns, Raises, RaisesBy}
+use Rattle.psac_trace.specs.Told.{Ended, Good, Fault, Other, Tells, what, then_ended, bared}
+use Rattle.psac_trace.specs.Raising.{puts, Aged, Raisable, Warns, Only, Raises, RaisesBy, Rewrote}
 use Rattle.psac_trace.proofs.Heaps.{Fresh, in_front, in_and_none}
 use Rattle.psac_trace.proofs.Tells.{told_within}
-use Rattle.psac_trace.proofs.Raised.{calm_by, calm_then, puts_in, slots_apart, Sequel, sequel_apart, sequel_unread, raises_then}
+use Rattle.psac_trace.proofs.Raised.{calm_by, calm_then, puts_in, slots_apart, Sequel, sequel_apart, sequel_unread, raises_then, only_then}
 use Rattle.psac_trace.proofs.Warning.{raisable_on, aged_on, open_at}
 
 -- a part left this record, made these and wrote its destinations; other old ones are still to be written
@@ -54,14 +54,21 @@ module _ (w : Setting Handle) (olds : List Handle) (t : Tables) (body : List Stm
       }
 
   -- what the next part raised, together with what this one did
-  pub behind_raises : (deep : Tracing Handle) (first : Cuts Handle) (f : Kept → Kept) → ((n : Kept) → puts k ++ puts n ≡ puts (f n)) → (q : Pass) (more : Made) → Moves t u q more → (e : Ended Kept) → RaisesBy olds u q e → Tells w deep first body env u.values.knows q.values.knows (bared e) → RaisesBy olds p q (then_ended f e)
-  behind_raises deep first f s q more mq (Good n) r tells =
+  pub behind_raises : (deep : Tracing Handle) (first : Cuts Handle) (f : Kept → Kept) → ((n : Kept) → puts k ++ puts n ≡ puts (f n)) → (q : Pass) (more : Made) → Moves t u q more → (e : Ended Kept) → RaisesBy olds u q e → Rewrote u.values.knows q.values.knows (puts (what e)) → Tells w deep first body env u.values.knows q.values.knows (bared e) → RaisesBy olds p q (then_ended f e)
+  behind_raises deep first f s q more mq (Good n) r words tells =
       let after : Heap = writes (bare k) ++ b.base in
       let told = tells after b.mid b.end b.meets b.ready in
       let seq : Sequel b.base q.values.knows (writes (bare k)) (writes (bare n)) =
       record { begun = b.begun; fresh = told.0.fresh; sees = told_within deep first body b.mid b.end.unwritten env u.values.knows q.values.knows after (Good (bare n)) told } in
       subst (Raises olds p q) (s n)
-      (raises_then olds t p u q made more (puts k) (puts n) mv mq b.raised r (sequel_apart b.base k n q seq)
-      (λ m x o i y j. sequel_unread b.base k n q seq mq.stays.tidy m x i (r.owned m x i) y.of (b.linked y j)))
-  behind_raises deep first f s q more mq (Fault n i l) r tells = calm_then olds p u q (calm_by olds p u mv.marks (Good k) b.raised) r
-  behind_raises deep first f s q more mq (Other n why) r tells = calm_then olds p u q (calm_by olds p u mv.marks (Good k) b.raised) r
+      (raises_then olds t p u q made more (puts k) (puts n) mv mq b.raised (sequel_apart b.base k n q seq)
+      (λ m x o i y j. sequel_unread b.base k n q seq mq.stays.tidy m x i (r.owned m x i) y.of (b.linked y j)) r)
+  behind_raises deep first f s q more mq (Fault n i l) r words tells =
+      let after : Heap = writes (bare k) ++ b.base in
+      let told = tells after b.mid b.end b.meets b.ready in
+      let seq : Sequel b.base q.values.knows (writes (bare k)) (writes (bare n)) =
+      record { begun = b.begun; fresh = told.0.fresh; sees = told.1 } in
+      subst (Only olds p q) (s n)
+      (only_then olds t p u q made more (puts k) (puts n) mv mq b.raised (sequel_apart b.base k n q seq)
+      (λ m x o i y j. sequel_unread b.base k n q seq mq.stays.tidy m x i (words.owned m x i) y.of (b.linked y j)) r)
+  behind_raises deep first f s q more mq (Other n why) r words tells = calm_then olds p u q (calm_by olds p u mv.marks (Good k) b.raised) r

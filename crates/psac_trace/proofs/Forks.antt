@@ -86,7 +86,7 @@ module _ (shared to_right : ℕ → Bool) (v : ValueView) where
   told_known e i = member_left e v.known (map (ways.lend v.claims.branch) (filter (lends ways shared to_right) v.mine)) i
 
   -- what goes to neither side alone both see
-  see_told : (u : ValueView) → u.known ≡ told → (m : Handle) (x : Value Handle) → Sees v m x → ((w : OwnedView) → Member w v.mine → w.of ≡ m → (shared w.of.slot ≡ true) ⊎ Member w u.mine) → Sees u m x
+  pub see_told : (u : ValueView) → u.known ≡ told → (m : Handle) (x : Value Handle) → Sees v m x → ((w : OwnedView) → Member w v.mine → w.of ≡ m → (shared w.of.slot ≡ true) ⊎ Member w u.mine) → Sees u m x
   see_told u k m x s f = (
     s.0,
     s.1,

@@ -37,7 +37,7 @@ use Rattle.psac_trace.proofs.Results.{destination_is, ref_is}
 use Rattle.psac_trace.proofs.Asked.{sees_looked}
 use Rattle.psac_trace.proofs.Valued.{value_known, values_known}
 use Rattle.psac_trace.proofs.Called.{to_old, to_known, linked}
-use Rattle.psac_trace.proofs.Moves.{narrow, ready_inner, ready_looked, ready_reads, Matches, moved_looked}
+use Rattle.psac_trace.proofs.Moves.{narrow, ready_inner, ready_looked, ready_reads, Matches, moved_looked, still_looked}
 use Rattle.psac_trace.proofs.Tells.{run_more, lift_told, same_ended}
 
 own : (xs : List ℕ) → all_in xs xs ≡ true
@@ -286,6 +286,7 @@ module _ (w : Setting Handle) (funcs : List Func) (checked : AreChecked funcs) w
           (λ heap wi c last h. run_more w funcs room s rest env heap c last (Ok a) (asked heap (readable base st end m r heap wi)) (h heap wi))
           (λ c f. f)
           (λ c f mv. moved_looked st end.unwritten env v u x base _ l mv)
+          (λ z. still_looked st end.unwritten env v u x l z)
           (λ z. z)
           (λ c n k. cut_on_acts same_handle w funcs room s rest env base a c n (λ heap wi. asked heap (readable base st end m r heap wi)) k)
           e (told base st p.mid end p.rest (ready_looked w st end.unwritten env v u base l r) (goes_at base st end m r)))
@@ -297,4 +298,5 @@ module _ (w : Setting Handle) (funcs : List Func) (checked : AreChecked funcs) w
         fresh = λ j i. absurd (none_some i.1);
       },
       λ n x e. sees_looked v u n x l (r.sees n x e),
+      λ n x h d s. sees_looked v u n x l s,
     )

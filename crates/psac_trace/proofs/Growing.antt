@@ -1,6 +1,7 @@
 -- What is made adds up: over one call after another, and over both sides of a fork.
 use Rattle.std.proofs.Common.{◌≡◌, ℕ, ◌<◌, ◌==◌, Bool, true, false, List, [], ◌∷◌, ◌++◌, map, Option, refl, ap, sym, ◌∙◌, subst, inl, inr, ⊎_elim, arith}
-use Rattle.std.specs.Prelude.{filter, sum_by}
+use Rattle.std.specs.Prelude.{filter, sum_by, cond}
+use Rattle.std.proofs.lemmas.List.{map-append}
 use Rattle.std.proofs.lemmas.List.Sums.{sum_by-append, sum_by-cons}
 use Rattle.psac_ops.specs.declared.plain.Handle.{Handle}
 use Rattle.psac_slots.specs.Branches.{stem}
@@ -18,20 +19,22 @@ use Rattle.psac_values.specs.Knowing.{Has, Claims, United, wrote, rewritten}
 use Rattle.psac_readers.specs.declared.view.WalkView.{WalkView}
 use Rattle.psac_readers.specs.declared.view.SharedView.{SharedView as SetView}
 use Rattle.psac_readers.specs.declared.view.ReadersView.{ReadersView}
-use Rattle.psac_readers.specs.Chained.{mods_of}
+use Rattle.psac_readers.specs.Chained.{named, mods_of}
 use Rattle.psac_record.specs.Kept.{Stands}
 use Rattle.psac_readers.specs.Steps as readers
 use Rattle.psac_marks.specs.declared.view.OwnView.{OwnView}
 use Rattle.psac_marks.specs.declared.view.MarksView.{MarksView}
 use Rattle.psac_marks.specs.Marked as marks_rule
+use Rattle.psac_marks.specs.Steps.{Lacks as LacksNode}
 use Rattle.psac_marks.specs.Passes.{Claims as ClaimsNode, Keeps, IsKept, IsDropped, Parted}
 use Rattle.psac_laws.proofs.Places.{test_or, not_both, nat_is, nat_same, not_true}
 use Rattle.psac_trace.specs.Rights.{Tidy, Kept}
 use Rattle.psac_trace.specs.Asking.{Looked}
 use Rattle.psac_trace.specs.Fit.{Rooted, both_have}
-use Rattle.psac_trace.specs.Grown.{Differ, MoreValues, MoreNodes, MoreMarks, MoreLinks, as_link}
+use Rattle.psac_trace.specs.Grown.{Differ, MoreValues, MoreNodes, MoreMarks, MoreLinks, as_link, nodes_in}
 use Rattle.psac_trace.proofs.Sums.{joined_sum, sum_map}
 use Rattle.psac_trace.proofs.Views.{claimed_has}
+use Rattle.psac_trace.proofs.Leading.{place_on, zero_or}
 
 -- modifiables
 pub values_none : (v : ValueView) → MoreValues v v []
@@ -130,7 +133,7 @@ values_claimed v u m c lacks =
 -- both sides of a par
 module _ (shared to_right : ℕ → Bool) (v l r j : ValueView) (a b : List Handle) (t : Tidy v) (kl : Kept (values.left_of shared to_right v) l) (kr : Kept (values.right_of shared to_right v) r) (is : j ≡ values.joined l r) (un : United l r j) where
   -- what a side makes neither side had
-  left_lacked : (m : Handle) → Has l m → Lacks (values.left_of shared to_right v) m.slot → Lacks v m.slot
+  pub left_lacked : (m : Handle) → Has l m → Lacks (values.left_of shared to_right v) m.slot → Lacks v m.slot
   left_lacked m h k =
       record {
         mine = λ w i e.
@@ -150,7 +153,7 @@ module _ (shared to_right : ℕ → Bool) (v l r j : ValueView) (a b : List Hand
         known = λ x i. k.known x (member_left x v.known (map (values_rule.ways.lend v.claims.branch) (filter (lends values_rule.ways shared to_right) v.mine)) i);
       }
 
-  right_lacked : (m : Handle) → Has r m → Lacks (values.right_of shared to_right v) m.slot → Lacks v m.slot
+  pub right_lacked : (m : Handle) → Has r m → Lacks (values.right_of shared to_right v) m.slot → Lacks v m.slot
   right_lacked m h k =
       record {
         mine = λ w i e.
@@ -173,7 +176,7 @@ module _ (shared to_right : ℕ → Bool) (v l r j : ValueView) (a b : List Hand
   stem_values : stem l.claims.branch ≡ v.claims.branch
   stem_values = ap stem kl.branch ∙ stem_push v.claims.branch false
 
-  mine_joined : j.mine ≡ (l.mine ++ r.mine) ++ map values_rule.ways.back (filter (comes_back values_rule.ways v.claims.branch) (told values_rule.ways shared to_right (values_rule.rights_of v)))
+  pub mine_joined : j.mine ≡ (l.mine ++ r.mine) ++ map values_rule.ways.back (filter (comes_back values_rule.ways v.claims.branch) (told values_rule.ways shared to_right (values_rule.rights_of v)))
   mine_joined =
       ap (λ (z : ValueView). z.mine) is
       ∙ ap (λ c. (l.mine ++ r.mine) ++ map values_rule.ways.back (filter (comes_back values_rule.ways c) l.known)) stem_values
@@ -217,7 +220,25 @@ nodes_none v =
       shared = refl;
       dropped = λ x. refl;
       has = λ o i. i;
+      differ = tt;
+      lacked = λ o i. absurd i;
+      gained = λ o i. absurd i;
     }
+
+-- what the pass owns has a place
+pub own_has : (v : MarksView) (o : OwnView) → Member o v.own → Member (marks_rule.own_place v.claims.branch o) (marks_rule.places v)
+own_has v o i =
+    member_left (marks_rule.own_place v.claims.branch o) (map (marks_rule.own_place v.claims.branch) v.own) (map marks_rule.shared_place v.shared)
+    (map_member (marks_rule.own_place v.claims.branch) o v.own i)
+
+-- two lists of nodes that have no slot in common
+pub nodes_differ : (a b : List OwnView) → Differ (nodes_in a) → Differ (nodes_in b) → ((x y : OwnView) → Member x a → Member y b → y.node.slot ≡ x.node.slot → ⊥) → Differ (nodes_in (a ++ b))
+nodes_differ a b da db f =
+    subst Differ (sym (map-append (λ (o : OwnView). o.node) a b))
+    (differ_append (nodes_in a) (nodes_in b) da db (λ m n i j e.
+    let x = member_map (λ (o : OwnView). o.node) m a i in
+    let y = member_map (λ (o : OwnView). o.node) n b j in
+    f x.0 y.0 x.1 y.1 (ap (λ (h : Handle). h.slot) y.2 ∙ e ∙ ap (λ (h : Handle). h.slot) (sym x.2))))
 
 pub nodes_then : (v u x : MarksView) (a b : List OwnView) → MoreNodes v u a → MoreNodes u x b → MoreNodes v x (a ++ b)
 nodes_then v u x a b m n =
@@ -228,6 +249,9 @@ nodes_then v u x a b m n =
       shared = n.shared ∙ m.shared;
       dropped = λ y. n.dropped y ∙ m.dropped y;
       has = λ o i. n.has o (m.has o i);
+      differ = nodes_differ a b m.differ n.differ (λ y z i j e. n.lacked z j (marks_rule.own_place u.claims.branch y) (own_has u y (m.gained y i)) (sym e));
+      lacked = λ o i. ⊎_elim (λ (j : Member o a). m.lacked o j) (λ (j : Member o b). λ p h. n.lacked o j p (place_on v u a m p h)) (member_cases o a b i);
+      gained = λ o i. ⊎_elim (λ (j : Member o a). n.has o (m.gained o j)) (λ (j : Member o b). n.gained o j) (member_cases o a b i);
     }
 
 pub nodes_same : (v u : MarksView) → u.own ≡ v.own → u.claims.held ≡ v.claims.held → u.shared ≡ v.shared → u.dropped ≡ v.dropped → u.claims.branch ≡ v.claims.branch → MoreNodes v u []
@@ -239,23 +263,17 @@ nodes_same v u own held shared dropped branch =
       shared = shared;
       dropped = λ x. ap (times x) dropped;
       has = λ o i. subst (Member o) (sym own) i;
+      differ = tt;
+      lacked = λ o i. absurd i;
+      gained = λ o i. absurd i;
     }
 
 -- a parent that is kept is kept on
 pub keeps_on : (v u : MarksView) (a : List OwnView) → MoreNodes v u a → (h : Handle) → Keeps v h → Keeps u h
-keeps_on v u a m h k =
-    let on : Member k.0 (marks_rule.places u) = ⊎_elim
-    (λ (i : Member k.0 (map (marks_rule.own_place v.claims.branch) v.own)).
-    let q = member_map (marks_rule.own_place v.claims.branch) k.0 v.own i in
-    member_left k.0 (map (marks_rule.own_place u.claims.branch) u.own) (map marks_rule.shared_place u.shared)
-    (subst (λ b. Member k.0 (map (marks_rule.own_place b) u.own)) (sym m.branch) (subst (λ z. Member z (map (marks_rule.own_place v.claims.branch) u.own)) q.2 (map_member (marks_rule.own_place v.claims.branch) q.0 u.own (m.has q.0 q.1)))))
-    (λ (i : Member k.0 (map marks_rule.shared_place v.shared)).
-    member_right k.0 (map (marks_rule.own_place u.claims.branch) u.own) (map marks_rule.shared_place u.shared) (subst (λ s. Member k.0 (map marks_rule.shared_place s)) (sym m.shared) i))
-    (member_cases k.0 (map (marks_rule.own_place v.claims.branch) v.own) (map marks_rule.shared_place v.shared) k.1) in
-    (k.0, on, k.2, m.dropped h.slot ∙ k.3)
+keeps_on v u a m h k = (k.0, place_on v u a m k.0 k.1, k.2, m.dropped h.slot ∙ k.3)
 
-pub nodes_claimed : (v u : MarksView) (h : Handle) (par : Option ℕ) → ClaimsNode v h par u → MoreNodes v u (record { node = h; parent = par } ∷ [])
-nodes_claimed v u h par c =
+pub nodes_claimed : (v u : MarksView) (h : Handle) (par : Option ℕ) → ClaimsNode v h par u → LacksNode v h.slot → MoreNodes v u (record { node = h; parent = par } ∷ [])
+nodes_claimed v u h par c new =
     let one : OwnView = record { node = h; parent = par } in
     record {
       branch = ap (λ (z : MarksView). z.claims.branch) c.becomes;
@@ -278,6 +296,9 @@ nodes_claimed v u h par c =
       shared = ap (λ (z : MarksView). z.shared) c.becomes;
       dropped = λ x. ap (λ (z : MarksView). times x z.dropped) c.becomes;
       has = λ o i. subst (λ (z : MarksView). Member o z.own) (sym c.becomes) (inr i);
+      differ = (λ n i. absurd i, tt);
+      lacked = λ o i. ⊎_elim (λ (e : one ≡ o). subst (λ (z : OwnView). LacksNode v z.node.slot) e new) (λ (b : ⊥). absurd b) i;
+      gained = λ o i. ⊎_elim (λ (e : one ≡ o). subst (λ z. Member z u.own) e (subst (λ (z : MarksView). Member one z.own) (sym c.becomes) (inl refl))) (λ (b : ⊥). absurd b) i;
     }
 
 -- the division at a par
@@ -302,6 +323,7 @@ links_none v =
       branch = refl;
       mods = refl;
       links = λ g. let a : sum_by (λ (s : Stands). g (as_link s)) [] ≡ 0 = refl in omega (arith, a);
+      once = λ l h. let a : sum_by (λ (s : Stands). named l (as_link s)) [] ≡ 0 = refl in absurd (omega (arith, a, h));
       walk = λ g. refl;
       shared = refl;
     }
@@ -312,6 +334,14 @@ links_then v u x a b m n =
       branch = n.branch ∙ m.branch;
       mods = n.mods ∙ m.mods;
       links = λ g. let p = m.links g in let q = n.links g in let r = sum_by-append (λ (s : Stands). g (as_link s)) a b in omega (arith, p, q, r);
+      once = λ l h.
+          let f : Stands → ℕ = λ s. named l (as_link s) in
+          let q = n.links (named l) in
+          let r = sum_by-append f a b in
+          elim (zero_or (sum_by f b)) [
+            | inl z ↦ (let c = m.once l (omega (arith, h, r, z)) in omega (arith, q, z, c))
+            | inr z ↦ n.once l z
+          ];
       walk = λ g. n.walk g ∙ m.walk g;
       shared = n.shared ∙ m.shared;
     }
@@ -322,6 +352,7 @@ links_same v u branch mods links walk shared =
       branch = branch;
       mods = mods;
       links = λ g. let p = ap (sum_by g) links in let a : sum_by (λ (s : Stands). g (as_link s)) [] ≡ 0 = refl in omega (arith, p, a);
+      once = λ l h. let a : sum_by (λ (s : Stands). named l (as_link s)) [] ≡ 0 = refl in absurd (omega (arith, a, h));
       walk = λ g. ap (λ z. sum_by g (mods_of z)) walk;
       shared = shared;
     }
@@ -333,8 +364,8 @@ has_same v u walk shared x h =
     (λ (i : (e : SetView) × Member e v.shared × (e.of ≡ x)). inr (i.0, subst (Member i.0) (sym shared) i.1, i.2))
     h
 
-pub links_entered : (v u : ReadersView) (s : Stands) → readers.Entered v s.of.slot (word_of s.node) s.link.index u → MoreLinks v u (s ∷ [])
-links_entered v u s e =
+pub links_entered : (v u : ReadersView) (s : Stands) → readers.Entered v s.of.slot (word_of s.node) s.link.index u → sum_by (named s.link.index) v.links ≡ 0 → MoreLinks v u (s ∷ [])
+links_entered v u s e new =
     record {
       branch = ap (λ (z : ReadersView). z.claims.branch) e.3;
       mods = ap (λ (z : ReadersView). z.mods) e.3;
@@ -345,6 +376,18 @@ links_entered v u s e =
           let d = sum_by-cons f s [] in
           let z : sum_by f [] ≡ 0 = refl in
           omega (arith, a, b, d, z);
+      once = λ l h.
+          let a = ap (λ (z : ReadersView). sum_by (named l) z.links) e.3 in
+          let b = sum_by-cons (named l) (as_link s) v.links in
+          let d = sum_by-cons (λ (t : Stands). named l (as_link t)) s [] in
+          let z : sum_by (λ (t : Stands). named l (as_link t)) [] ≡ 0 = refl in
+          elim (test_or (s.link.index == l)) [
+            | inl t ↦
+                (let one : named l (as_link s) ≡ 1 = ap {B = ℕ} (λ b. cond b 1 0) t in
+                let none : sum_by (named l) v.links ≡ 0 = subst (λ n. sum_by (named n) v.links ≡ 0) (nat_is s.link.index l t) new in
+                omega (arith, a, b, one, none))
+            | inr t ↦ (let none : named l (as_link s) ≡ 0 = ap {B = ℕ} (λ b. cond b 1 0) t in absurd (omega (arith, d, z, none, h)))
+          ];
       walk = λ g.
           let a = ap (λ (z : ReadersView). sum_by g (mods_of z.walk)) e.3 in
           let b = sum_map (λ (x : WalkView). x.of) g (map (readers.forget s.of.slot) v.walk) in

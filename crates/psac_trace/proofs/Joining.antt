@@ -1,5 +1,5 @@
 -- What both sides of a par added to the nodes and to the links, together.
-use Rattle.std.proofs.Common.{◌≡◌, ℕ, ◌+◌, ◌<◌, ◌&&◌, Bool, true, false, not, List, [], ◌∷◌, ◌++◌, map, length, refl, ap, sym, ◌∙◌, subst, inl, inr, ⊎_elim, arith}
+use Rattle.std.proofs.Common.{◌≡◌, ◌≢◌, ℕ, ◌+◌, ◌≤◌, ◌<◌, ◌&&◌, Bool, true, false, not, List, [], ◌∷◌, ◌++◌, map, length, refl, ap, sym, ◌∙◌, subst, inl, inr, ⊎_elim, arith}
 use Rattle.std.specs.Prelude.{filter, sum_by, ltb}
 use Rattle.std.proofs.lemmas.List.Sums.{sum_by-append}
 use Rattle.std.proofs.lemmas.List.Filters.{sum_by-filter_both}
@@ -7,7 +7,7 @@ use Rattle.psac_slots.specs.Branches.{stem}
 use Rattle.psac_slots.specs.Handles.{Member}
 use Rattle.psac_slots.specs.Claiming.{times}
 use Rattle.psac_slots.specs.Divided.{stays, goes, lends, told, above, comes_back}
-use Rattle.psac_slots.proofs.Pairs.{member_left, member_right, map_member, filter_member}
+use Rattle.psac_slots.proofs.Pairs.{member_left, member_right, member_cases, member_map, map_member, filter_member}
 use Rattle.psac_slots.proofs.Turns.{stem_push}
 use Rattle.psac_readers.specs.declared.view.LinkView.{LinkView}
 use Rattle.psac_readers.specs.declared.view.WalkView.{WalkView}
@@ -19,13 +19,16 @@ use Rattle.psac_marks.specs.declared.view.OwnView.{OwnView}
 use Rattle.psac_marks.specs.declared.view.SharedView.{SharedView as NodeView}
 use Rattle.psac_marks.specs.declared.view.MarksView.{MarksView}
 use Rattle.psac_marks.specs.Marked as marks_rule
+use Rattle.psac_marks.specs.Marked.{Place}
 use Rattle.psac_marks.specs.Steps as marks
+use Rattle.psac_marks.specs.Steps.{Lacks}
 use Rattle.psac_record.specs.Kept.{Stands}
 use Rattle.psac_laws.proofs.Places.{test_or}
-use Rattle.psac_marks.specs.Passes.{IsBusy}
+use Rattle.psac_marks.specs.Passes.{IsBusy, United as UnitedNodes}
 use Rattle.psac_trace.specs.Fit.{Rooted, both_have}
 use Rattle.psac_trace.specs.Grown.{MoreNodes, MoreMarks, MoreLinks, as_link}
 use Rattle.psac_trace.proofs.Claims.{times_append}
+use Rattle.psac_trace.proofs.Growing.{own_has, nodes_differ}
 use Rattle.psac_trace.proofs.Sums.{joined_sum, above_is, back_is, keeps_all}
 
 and_false : (b : Bool) → (b && false) ≡ false
@@ -37,7 +40,7 @@ none_of f [] h = refl
 none_of f (x ∷ xs) h = rw (h x) (none_of f xs h)
 
 -- nodes, where both sides have all that isn't dropped
-module _ (v l r j : MarksView) (a b : List OwnView) (rooted : Rooted v) (ml : MoreNodes (marks.left_of (both_have v) (λ x. false) v) l a) (mr : MoreNodes (marks.right_of (both_have v) (λ x. false) v) r b) (is : j ≡ marks.joined l r) where
+module _ (v l r j : MarksView) (a b : List OwnView) (rooted : Rooted v) (ml : MoreNodes (marks.left_of (both_have v) (λ x. false) v) l a) (mr : MoreNodes (marks.right_of (both_have v) (λ x. false) v) r b) (is : j ≡ marks.joined l r) (un : UnitedNodes l r j) where
   abbrev S : ℕ → Bool
   S = both_have v
 
@@ -55,6 +58,49 @@ module _ (v l r j : MarksView) (a b : List OwnView) (rooted : Rooted v) (ml : Mo
 
   not_over : (x : ℕ) → marks.goes_over S N v x ≡ false
   not_over x = ap (λ t. ltb 0 (times x (map marks_rule.ways.slot v.own)) && t) (and_false (not (S x))) ∙ and_false (ltb 0 (times x (map marks_rule.ways.slot v.own)))
+
+  abbrev lent : OwnView → NodeView
+  lent = marks_rule.ways.lend v.claims.branch
+
+  -- what the pass has a side has: the kept nodes both do, and the others the left one
+  shared_has : (s : NodeView) → Member s v.shared → Member (marks_rule.shared_place s) (map marks_rule.shared_place (marks.now_shared S N v))
+  shared_has s i = map_member marks_rule.shared_place s (marks.now_shared S N v) (member_left s v.shared (map lent (filter (lends marks_rule.ways S N) v.own)) i)
+
+  lent_has : (o : OwnView) → Member o v.own → S o.node.slot ≡ true → Member (marks_rule.shared_place (lent o)) (map marks_rule.shared_place (marks.now_shared S N v))
+  lent_has o i s =
+      map_member marks_rule.shared_place (lent o) (marks.now_shared S N v)
+      (member_right (lent o) v.shared (map lent (filter (lends marks_rule.ways S N) v.own)) (map_member lent o (filter (lends marks_rule.ways S N) v.own) (filter_member (lends marks_rule.ways S N) o v.own i s)))
+
+  kept_has : (o : OwnView) → Member o v.own → S o.node.slot ≡ false → Member o (marks.left_of S N v).own
+  kept_has o i s = filter_member (stays marks_rule.ways S N) o v.own i (rw s refl)
+
+  lacked_by : (x : ℕ) → ((s : NodeView) → Member (marks_rule.shared_place s) (map marks_rule.shared_place (marks.now_shared S N v)) → s.node.slot ≢ x) → ((o : OwnView) → Member o (marks.left_of S N v).own → o.node.slot ≢ x) → Lacks v x
+  lacked_by x both left e i =
+      ⊎_elim
+      (λ (j : Member e (map (marks_rule.own_place v.claims.branch) v.own)).
+      let q = member_map (marks_rule.own_place v.claims.branch) e v.own j in
+      λ z.
+      (let here : q.0.node.slot ≡ x = ap (λ (p : Place). p.node.slot) q.2 ∙ z in
+      elim (test_or (S q.0.node.slot)) [
+        | inl s ↦ both (lent q.0) (lent_has q.0 q.1 s) here
+        | inr s ↦ left q.0 (kept_has q.0 q.1 s) here
+      ]))
+      (λ (j : Member e (map marks_rule.shared_place v.shared)).
+      let q = member_map marks_rule.shared_place e v.shared j in
+      λ z. both q.0 (shared_has q.0 q.1) (ap (λ (p : Place). p.node.slot) q.2 ∙ z))
+      (member_cases e (map (marks_rule.own_place v.claims.branch) v.own) (map marks_rule.shared_place v.shared) i)
+
+  left_lacked : (x : ℕ) → Lacks (marks.left_of S N v) x → Lacks v x
+  left_lacked x k =
+      lacked_by x
+      (λ s i. k (marks_rule.shared_place s) (member_right (marks_rule.shared_place s) (map (marks_rule.own_place (marks.left_of S N v).claims.branch) (marks.left_of S N v).own) (map marks_rule.shared_place (marks.now_shared S N v)) i))
+      (λ o i. k (marks_rule.own_place (marks.left_of S N v).claims.branch o) (own_has (marks.left_of S N v) o i))
+
+  right_lacked : (o : OwnView) → Member o r.own → Lacks (marks.right_of S N v) o.node.slot → Lacks v o.node.slot
+  right_lacked o own k =
+      lacked_by o.node.slot
+      (λ s i. k (marks_rule.shared_place s) (member_right (marks_rule.shared_place s) (map (marks_rule.own_place (marks.right_of S N v).claims.branch) (marks.right_of S N v).own) (map marks_rule.shared_place (marks.now_shared S N v)) i))
+      (λ m i e. un.left_alone m (ml.has m i) (marks_rule.own_place r.claims.branch o) (own_has r o own) (sym e))
 
   pub nodes_joined : MoreNodes v j (a ++ b)
   nodes_joined =
@@ -99,6 +145,15 @@ module _ (v l r j : MarksView) (a b : List OwnView) (rooted : Rooted v) (ml : Mo
                   (let k : (not (S o.node.slot) && not false) ≡ true = rw t refl in
                   member_left o (l.own ++ r.own) back (member_left o l.own r.own (ml.has o (filter_member (stays marks_rule.ways S N) o v.own i k))))
             ]);
+        differ = nodes_differ a b ml.differ mr.differ (λ x y i k e. un.left_alone x (ml.gained x i) (marks_rule.own_place r.claims.branch y) (own_has r y (mr.gained y k)) e);
+        lacked = λ o i. ⊎_elim (λ (k : Member o a). left_lacked o.node.slot (ml.lacked o k)) (λ (k : Member o b). right_lacked o (mr.gained o k) (mr.lacked o k)) (member_cases o a b i);
+        gained = λ o i.
+            let back = map marks_rule.ways.back (filter (comes_back marks_rule.ways v.claims.branch) (told marks_rule.ways S N (marks_rule.rights_of v))) in
+            subst (Member o) (sym own_is)
+            (⊎_elim
+            (λ (k : Member o a). member_left o (l.own ++ r.own) back (member_left o l.own r.own (ml.gained o k)))
+            (λ (k : Member o b). member_left o (l.own ++ r.own) back (member_right o l.own r.own (mr.gained o k)))
+            (member_cases o a b i));
       }
 
 -- links
@@ -118,7 +173,7 @@ pub mods_unknown : (es : List SetView) → readers_rule.mods_of (map readers.unk
 mods_unknown [] = refl
 mods_unknown (e ∷ es) = ap (λ z. e.of ∷ z) (mods_unknown es)
 
-module _ (shared to_right link_right : ℕ → Bool) (v l r j : ReadersView) (a b : List Stands) (labels : (e : SetView) → Member e v.shared → length e.label < length v.claims.branch) (ml : MoreLinks (readers.left_of shared to_right link_right v) l a) (mr : MoreLinks (readers.right_of shared to_right link_right v) r b) (is : j ≡ readers.joined l r) where
+module _ (shared to_right link_right : ℕ → Bool) (v l r j : ReadersView) (a b : List Stands) (labels : (e : SetView) → Member e v.shared → length e.label < length v.claims.branch) (ml : MoreLinks (readers.left_of shared to_right link_right v) l a) (mr : MoreLinks (readers.right_of shared to_right link_right v) r b) (is : j ≡ readers.joined l r) (one : (l : ℕ) → sum_by (readers_rule.named l) j.links ≤ 1) where
   set_stem : stem l.claims.branch ≡ v.claims.branch
   set_stem = ap stem ml.branch ∙ stem_push v.claims.branch false
 
@@ -161,7 +216,7 @@ module _ (shared to_right link_right : ℕ → Bool) (v l r j : ReadersView) (a 
 
   pub links_joined : MoreLinks v j (a ++ b)
   links_joined =
-      record { branch = ap (λ (z : ReadersView). z.claims.branch) is ∙ set_stem; mods = ap (λ (z : ReadersView). z.mods) is ∙ ml.mods; links = links_sum; walk = walk_sum; shared = sets_shared }
+      record { branch = ap (λ (z : ReadersView). z.claims.branch) is ∙ set_stem; mods = ap (λ (z : ReadersView). z.mods) is ∙ ml.mods; links = links_sum; once = λ l h. one l; walk = walk_sum; shared = sets_shared }
 
 -- marks, where both sides have all that isn't dropped
 module _ (v l r j : MarksView) (ml : MoreMarks (marks.left_of (both_have v) (λ x. false) v) l) (mr : MoreMarks (marks.right_of (both_have v) (λ x. false) v) r) (is : j ≡ marks.joined l r) where

@@ -33,8 +33,8 @@ leads_more v w more kept busy x (e ∷ es) l = (
       l.3,
 )
 
-module _ (v u : MarksView) (a : List OwnView) (m : MoreNodes v u a) (k : MoreMarks v u) where
-  place_on : (e : Place) → Member e (places v) → Member e (places u)
+module _ (v u : MarksView) (a : List OwnView) (m : MoreNodes v u a) where
+  pub place_on : (e : Place) → Member e (places v) → Member e (places u)
   place_on e i =
       ⊎_elim
       (λ (j : Member e (map (marks_rule.own_place v.claims.branch) v.own)).
@@ -45,8 +45,8 @@ module _ (v u : MarksView) (a : List OwnView) (m : MoreNodes v u a) (k : MoreMar
       member_right e (map (marks_rule.own_place u.claims.branch) u.own) (map marks_rule.shared_place u.shared) (subst (λ s. Member e (map marks_rule.shared_place s)) (sym m.shared) j))
       (member_cases e (map (marks_rule.own_place v.claims.branch) v.own) (map marks_rule.shared_place v.shared) i)
 
-  pub leads_on : (x : ℕ) (path : List Place) → Leads v x path → Leads u x path
-  leads_on = leads_more v u (λ e i h. place_on e i) (λ x h. m.dropped x ∙ h) (λ x h b. k.busy x b)
+  pub leads_on : MoreMarks v u → (x : ℕ) (path : List Place) → Leads v x path → Leads u x path
+  leads_on k = leads_more v u (λ e i h. place_on e i) (λ x h. m.dropped x ∙ h) (λ x h b. k.busy x b)
 
 -- sums and members
 pub member_sum : {A : Type 0} (g : A → ℕ) (x : A) (xs : List A) → Member x xs → 0 < g x → 0 < sum_by g xs

@@ -1,6 +1,7 @@
 -- What a call made, by how it ended: behind what was made before, and round what was recorded.
 use Rattle.std.proofs.Common.{◌≡◌, ◌+◌, ◌≤◌, List, [], ◌∷◌, ◌++◌, map, Option, Some, None, refl, ap, sym, ◌∙◌, subst, arith, length, length-append}
 use Rattle.psac_ops.specs.declared.plain.Handle.{Handle}
+use Rattle.psac_ops.specs.declared.plain.Plain.{Plain}
 use Rattle.psac_fork.specs.declared.tables.Pass.{Pass}
 use Rattle.psac_fork.specs.declared.tables.Tables.{Tables}
 use Rattle.psac_fork.specs.Whole.{HasRoom}
@@ -13,9 +14,11 @@ use Rattle.psac_record.specs.declared.parts.Reading.{Reading}
 use Rattle.psac_record.specs.Kept.{Kept, E, S, P, R, bare, nodes_below, stands}
 use Rattle.psac_trace.specs.Grown.{Made, nothing, followed, made_below, claims_in, as_own, Moves, Cause, IsFull}
 use Rattle.psac_trace.specs.Told.{Ended, Good, Fault, Other, what, then_ended, bared, is_other, first_why, both_ended, Follows}
+use Rattle.psac_trace.specs.Raising.{puts, Rewrote}
 use Rattle.psac_trace.specs.Running.{RoomAfter, AtMost, AllMade, FullBy, nodes_only, read_made}
 use Rattle.psac_trace.proofs.Claims.{append_none}
 use Rattle.psac_trace.proofs.Moving.{each_cap, moves_then, full_then}
+use Rattle.psac_trace.proofs.Rewriting.{rewrote_then}
 
 -- ends without nodes and links
 
@@ -33,6 +36,12 @@ pub what_then : (f : Kept → Kept) (e : Ended Kept) → what (then_ended f e) �
 what_then f (Good k) = refl
 what_then f (Fault k i n) = refl
 what_then f (Other k why) = refl
+
+pub same_what : (e o : Ended Kept) → Follows e o → what e ≡ what o
+same_what e (Good k) h = ap what h
+same_what e (Fault k i n) h = ap what h
+same_what e (Other k (Some c)) h = ap what h
+same_what e (Other k None) h = h
 
 pub why_bared : (why : Option Cause) (e : Ended Kept) → first_why why (bared e) ≡ first_why why e
 why_bared None e = refl
@@ -191,10 +200,11 @@ pub record Does (g : Kept → Made) (t : Tables) (p q : Pass) (e : Ended Kept) :
   pub all : AllMade g q made e
   pub room : RoomAfter q e
   pub full : FullBy p q e
+  pub words : Rewrote p.values.knows q.values.knows (puts (what e))
 
--- behind what was made before, with its part put round it
-pub does_then : (g h : Kept → Made) (f : Kept → Kept) (t : Tables) (p u q : Pass) (m : Made) (e o : Ended Kept) → ((k : Kept) → followed m (g k) ≡ h (f k)) → Moves t p u m → Does g t u q e → Follows (then_ended f e) o → Does h t p q o
-does_then g h f t p u q m e o s mv d fo =
+-- behind what was made and written before, with its part put round it
+pub does_then : (g h : Kept → Made) (f : Kept → Kept) (t : Tables) (p u q : Pass) (m : Made) (e o : Ended Kept) → ((k : Kept) → followed m (g k) ≡ h (f k)) → (ws : List (Handle × Plain)) → ((k : Kept) → ws ++ puts k ≡ puts (f k)) → Moves t p u m → Rewrote p.values.knows u.values.knows ws → Does g t u q e → Follows (then_ended f e) o → Does h t p q o
+does_then g h f t p u q m e o s ws more mv w d fo =
     let made = followed m d.made in
     let room = room_then q f e d.room in
     let all = all_map (λ k. followed m (g k)) h f s q made e (all_front m g q d.made e d.all) in
@@ -204,6 +214,8 @@ does_then g h f t p u q m e o s mv d fo =
       all = all_follows h q made (then_ended f e) o fo room all;
       room = room_follows q (then_ended f e) o fo room;
       full = full_follows p q (then_ended f e) o fo (full_wrapped p q f e (full_before t p u q m e mv d.full));
+      words = subst (λ k. Rewrote p.values.knows q.values.knows (puts k)) (sym (what_then f e) ∙ same_what (then_ended f e) o fo)
+          (subst (Rewrote p.values.knows q.values.knows) (more (what e)) (rewrote_then p.values.knows u.values.knows q.values.knows ws (puts (what e)) mv.stays d.moves.stays w d.words));
     }
 
 -- both sides, of which each made its own

@@ -28,3 +28,5 @@ pub mod Warning
 pub mod Behind
 pub mod Rousing
 pub mod Uniting
+pub mod Rewriting
+pub mod Following

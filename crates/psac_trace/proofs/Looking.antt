@@ -17,13 +17,7 @@ use Rattle.psac_record.specs.Kept.{Kept, E, A, W, S, P, R, links_of, stands, rea
 use Rattle.psac_trace.specs.Told.{Ended, Good, Fault, Other, what, then_ended, both_ended, Follows}
 use Rattle.psac_trace.specs.Looks.{writes_in, Looks}
 use Rattle.psac_trace.specs.Running.{LeavesAfter}
-use Rattle.psac_trace.proofs.Leaving.{what_then}
-
-pub same_what : (e o : Ended Kept) → Follows e o → what e ≡ what o
-same_what e (Good k) h = ap what h
-same_what e (Fault k i n) h = ap what h
-same_what e (Other k (Some c)) h = ap what h
-same_what e (Other k None) h = h
+use Rattle.psac_trace.proofs.Leaving.{what_then, same_what}
 
 pub looks_follow : (before : ℕ) (v u : ValueView) (f : Kept → Kept) (e o : Ended Kept) → Follows (then_ended f e) o → Looks before v u (f (what e)) → Looks before v u (what o)
 looks_follow before v u f e o h = subst (Looks before v u) (sym (what_then f e) ∙ same_what (then_ended f e) o h)

@@ -18,7 +18,7 @@ use Rattle.psac_model.specs.Series.{has, without, all_in}
 use Rattle.psac_laws.specs.Standing.{in_both, Standing, is_new, with_value, with_dest, with_values, settled, series, series_of, left_by}
 use Rattle.psac_laws.proofs.Places.{none_some, some_is, nat_is, nat_same, not_true, test_or, not_both}
 use Rattle.psac_laws.proofs.Rules.{or_is, or_left, or_right, has_without, without_has, has_append, has_both, both_has, all_in_has, new_is, other, settles, stays, IsSettled}
-use Rattle.psac_trace.specs.Rights.{Heap, held, In, Named, Sees, Tidy, Kept, Target, Ready, Moved}
+use Rattle.psac_trace.specs.Rights.{Heap, held, In, Named, Sees, Tidy, Kept, Target, Ready, Moved, Unchanged}
 use Rattle.psac_trace.specs.Asking.{Looked}
 use Rattle.psac_trace.specs.Divided.{writes_slot, neither}
 use Rattle.psac_trace.specs.Running.{Parts}
@@ -26,7 +26,8 @@ use Rattle.psac_trace.proofs.Results.{ref_is}
 use Rattle.psac_trace.proofs.Bound.{bound_old, bound_new}
 use Rattle.psac_trace.proofs.Heaps.{not_in, held_front, held_back, held_either, in_front, in_back, in_either, named_more, names_back, one_is, at_one, wider_in}
 use Rattle.psac_trace.proofs.Views.{claimed_has, claimed_old, claimed_sees, not_had, not_seen, wrote_has, wrote_here, wrote_else}
-use Rattle.psac_trace.proofs.Forks.{left_has, right_has, left_sees, right_sees, joined_sees_left, joined_sees_right, lent_left, left_right, right_shares}
+use Rattle.psac_trace.proofs.Asked.{sees_looked}
+use Rattle.psac_trace.proofs.Forks.{see_told, left_has, right_has, left_sees, right_sees, joined_sees_left, joined_sees_right, lent_left, left_right, right_shares}
 use Rattle.psac_trace.proofs.Written.{writes_only, writes_all, slot_is, is_slot}
 
 -- what one list of destinations leaves open the other does too
@@ -135,6 +136,17 @@ module _ (w : Setting Handle) where
               ];
           owned = mv.owned;
         }
+
+    -- what was made the pass didn't have
+    pub still_make : (x : ValueView) → Unchanged (with_dest d st) left (bind d (ref m) env) u x → Unchanged st left env v x
+    still_make x kept k y h e s =
+        kept k y (claimed_old v u m c l k h)
+        (λ t.
+        elim (test_or (d == t.0)) [
+          | inl p ↦ not_had v u m c l k h (ap (λ (z : Handle). z.slot) (ref_is (sym t.3 ∙ bound_new d t.0 (ref m) env p)))
+          | inr p ↦ e (t.0, rest_of t.0 p t.1, t.2, sym (old_bound t.0 p) ∙ t.3)
+        ])
+        (claimed_sees v u m c l k y s)
 
   -- the rest of a body, after a part that wrote some of its destinations
   pub ready_next : (st : Standing) (inner left : List ℕ) (env : Env Handle) (v u : ValueView) (base ws : Heap) → Ready w st left env v base → all_in inner st.unwritten ≡ true → Narrow st inner left → Moved st inner env v u base ws → Kept v u → Ready w (settled inner st) left env u (ws ++ base)
@@ -304,6 +316,21 @@ module _ (w : Setting Handle) where
           | inr e ↦ inl (t.0, t.1, e, t.3)
         ]
 
+    -- a side keeps what the other one writes
+    pub still_sides : (l k j : ValueView) (kl : Kept (left_of S T v) l) (kr : Kept (right_of S T v) k) (is : j ≡ joined l k) (un : United l k j) → Unchanged st p.one env (left_of S T v) l → Unchanged st p.two env (right_of S T v) k → Unchanged st (in_both p.one p.two) env v j
+    still_sides l k j kl kr is un a b m x h d s =
+        elim (test_or (S m.slot)) [
+          | inl e ↦ joined_sees_left S T v tv l k j kl kr is un m x (see_told S T v l kl.known m x s (λ o i q. inl (ap (λ (z : Handle). S z.slot) q ∙ e)))
+          | inr e ↦
+              elim (test_or (T m.slot)) [
+                | inl t ↦ joined_sees_right S T v tv l k j kl kr is un m x (b m x (right_has S T v m h e t) (λ z. d (both_target_right m z)) (right_sees S T v m x s (λ i q. t)))
+                | inr t ↦ joined_sees_left S T v tv l k j kl kr is un m x (a m x (left_has S T v m h e t) (λ z. d (both_target_left m z)) (left_sees S T v m x s (λ i. t)))
+              ]
+        ]
+
+    pub still_second : (u j : ValueView) → Kept v u → Unchanged st p.one env v u → Unchanged st p.two env u j → Unchanged st (in_both p.one p.two) env v j
+    still_second u j k a b m x h d s = b m x (k.mine m h) (λ t. d (both_target_right m t)) (a m x h (λ t. d (both_target_left m t)) s)
+
     -- what both sides leave, together
     module _ (l k j : ValueView) (kl : Kept (left_of S T v) l) (kr : Kept (right_of S T v) k) (is : j ≡ joined l k) (un : United l k j) (one two : Heap) (ml : Moved st p.one env (left_of S T v) l base one) (mr : Moved st p.two env (right_of S T v) k base two) where
       pub moved_sides : Moved st (in_both p.one p.two) env v j base (two ++ one)
@@ -390,6 +417,21 @@ moved_none w st left env v base r e =
 pub moved_looked : (st : Standing) (left : List ℕ) (env : Env Handle) (v u x : ValueView) (base ws : Heap) → Looked v u → Moved st left env u x base ws → Moved st left env v x base ws
 moved_looked st left env v u x base ws l mv =
     record { closed = mv.closed; sees = mv.sees; done = mv.done; spares = λ m h i. mv.spares m (subst (λ z. Has z m) (sym l.1) h) i; owned = mv.owned }
+
+pub still_looked : (st : Standing) (left : List ℕ) (env : Env Handle) (v u x : ValueView) → Looked v u → Unchanged st left env u x → Unchanged st left env v x
+still_looked st left env v u x l c m y h d s = c m y (subst (λ z. Has z m) (sym l.1) h) d (sees_looked v u m y l s)
+
+pub still_bind : (st : Standing) (left : List ℕ) (env : Env Handle) (v u : ValueView) (x : ℕ) (y : Value Handle) → is_new st x ≡ true → Unchanged (with_value x st) left (bind x y env) v u → Unchanged st left env v u
+still_bind st left env v u x y n c m z h d s =
+    let old : (i : ℕ) → has i st.unwritten ≡ true → bound i (bind x y env) ≡ bound i env = λ i j. bound_old x i y env (other x i st.unwritten (new_is st x n).1 j) in
+    c m z h (λ t. d (t.0, t.1, t.2, sym (old t.0 t.1) ∙ t.3)) s
+
+pub still_put : (st : Standing) (left : List ℕ) (env : Env Handle) (v : ValueView) (m : Handle) (ws : List ℕ) → Tidy v → Has v m → Target st left env m → Unchanged st left env v (wrote m.slot ws v)
+still_put st left env v m ws t mine due n x h d s = wrote_else v m ws t mine n x (λ e. d (subst (Target st left env) e due)) s
+
+pub still_then : (st : Standing) (inner left : List ℕ) (env : Env Handle) (v u x : ValueView) → all_in inner st.unwritten ≡ true → Narrow st inner left → Kept v u → Unchanged st inner env v u → Unchanged (settled inner st) left env u x → Unchanged st left env v x
+still_then st inner left env v u x within n k a b m y h d s =
+    b m y (k.mine m h) (λ t. d (t.0, all_in_has t.0 inner st.unwritten within t.1, t.2, t.3)) (a m y h (λ t. d (target_narrow st inner left env m n t)) s)
 
 pub moved_bind : (st : Standing) (left : List ℕ) (env : Env Handle) (v u : ValueView) (base ws : Heap) (x : ℕ) (y : Value Handle) → is_new st x ≡ true → Moved (with_value x st) left (bind x y env) v u base ws → Moved st left env v u base ws
 moved_bind st left env v u base ws x y n mv =

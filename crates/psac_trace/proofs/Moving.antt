@@ -1,4 +1,5 @@
 -- From one pass to another, over one call after another, and over both sides of a fork.
+use Rattle.std.specs.Prelude.{sum_by}
 use Rattle.std.proofs.Common.{◌≡◌, ℕ, ◌+◌, ◌≤◌, ◌<◌, Bool, false, List, [], ◌∷◌, ◌++◌, map, length, Option, refl, ap, sym, ◌∙◌, subst, inl, arith, length-append}
 use Rattle.psac_ops.specs.declared.plain.Handle.{Handle}
 use Rattle.psac_syntax.specs.declared.program.Stmt.{Stmt}
@@ -14,9 +15,11 @@ use Rattle.psac_values.specs.Steps.{Lacks, new_owned}
 use Rattle.psac_values.specs.Knowing.{Has as MayWrite, Claims, United, wrote}
 use Rattle.psac_readers.specs.declared.view.ReadersView.{ReadersView}
 use Rattle.psac_readers.specs.Steps as readers
+use Rattle.psac_readers.specs.Chained.{named}
 use Rattle.psac_marks.specs.declared.view.OwnView.{OwnView}
 use Rattle.psac_marks.specs.declared.view.MarksView.{MarksView}
 use Rattle.psac_marks.specs.Steps as marks
+use Rattle.psac_marks.specs.Steps.{Lacks as LacksNode}
 use Rattle.psac_marks.specs.Passes.{Claims as ClaimsNode, Keeps, slot_of, United as UnitedNodes}
 use Rattle.psac_fork.specs.declared.tables.Pass.{Pass}
 use Rattle.psac_fork.specs.declared.tables.Tables.{Tables}
@@ -213,11 +216,11 @@ module _ (t : Tables) (p q : Pass) (of : IsOf p t) (tidy : Tidy p.values.knows) 
           marks = k;
         }
 
-    pub moves_node : (h : Handle) (par : Option Handle) → ParentKept par p.marks.knows → ClaimsNode p.marks.knows h (slot_of par) q.marks.knows → Moves t p q (nodes_only ((h, par) ∷ []))
-    moves_node h par kept c =
+    pub moves_node : (h : Handle) (par : Option Handle) → ParentKept par p.marks.knows → ClaimsNode p.marks.knows h (slot_of par) q.marks.knows → LacksNode p.marks.knows h.slot → Moves t p q (nodes_only ((h, par) ∷ []))
+    moves_node h par kept c new =
         let v = p.marks.knows in
         let u = q.marks.knows in
-        let m = nodes_claimed v u h (slot_of par) c in
+        let m = nodes_claimed v u h (slot_of par) c new in
         marks_moved (record { node = h; parent = slot_of par } ∷ []) (rooted_claimed v u h par c m kept fit.nodes)
         (subst (λ z. MoreClaims v.claims z 1) (sym (ap (λ (z : MarksView). z.claims) c.becomes)) (claims_drew v.claims c.index c.low))
         m (marks_same v u (ap (λ (z : MarksView). z.marked) c.becomes) (ap (λ (z : MarksView). z.busy) c.becomes))
@@ -257,14 +260,14 @@ module _ (t : Tables) (p q : Pass) (of : IsOf p t) (tidy : Tidy p.values.knows) 
           marks = subst (λ z. MoreMarks p.marks.knows z) (sym marks_is) (marks_none p.marks.knows);
         }
 
-    pub moves_link : (s : Stands) → readers.Entered p.readers.knows s.of.slot (word_of s.node) s.link.index q.readers.knows → ((x : ℕ) → readers.Has x p.readers.knows → readers.Has x q.readers.knows) → Moves t p q (links_only (s ∷ []))
-    moves_link s e has =
+    pub moves_link : (s : Stands) → readers.Entered p.readers.knows s.of.slot (word_of s.node) s.link.index q.readers.knows → sum_by (named s.link.index) p.readers.knows.links ≡ 0 → ((x : ℕ) → readers.Has x p.readers.knows → readers.Has x q.readers.knows) → Moves t p q (links_only (s ∷ []))
+    moves_link s e new has =
         let v = p.readers.knows in
         let u = q.readers.knows in
         readers_moved (s ∷ [])
         (sets_links p.values.knows v u (ap (λ (z : ReadersView). z.mods) e.3) has (ap (λ (z : ReadersView). z.shared) e.3) (ap (λ (z : ReadersView). z.claims.branch) e.3) fit.sets)
         (subst (λ z. MoreClaims v.claims z 1) (sym (ap (λ (z : ReadersView). z.claims) e.3)) (claims_drew v.claims e.0 e.1))
-        (links_entered v u s e)
+        (links_entered v u s e new)
 
     pub moves_no_link : (n : ℕ) → length p.readers.knows.claims.list ≤ n → q.readers.knows ≡ readers.drew p.readers.knows n → Moves t p q nothing
     moves_no_link n h e =
@@ -341,6 +344,7 @@ module _ (t : Tables) (p l k : Pass) (ls rs : List Stmt) (env : Env Handle) (fit
       (jv : j.values.knows ≡ values.joined l'.values.knows k'.values.knows)
       (un : United l'.values.knows k'.values.knows j.values.knows)
       (jr : j.readers.knows ≡ readers.joined l'.readers.knows k'.readers.knows)
+      (one : (l : ℕ) → sum_by (named l) j.readers.knows.links ≤ 1)
       (jm : j.marks.knows ≡ marks.joined l'.marks.knows k'.marks.knows)
       (unm : UnitedNodes l'.marks.knows k'.marks.knows j.marks.knows) where
     claims_join : (c : CapKind) → claims_in c j ≡ claiming.joined (claims_in c l') (claims_in c k')
@@ -365,7 +369,7 @@ module _ (t : Tables) (p l k : Pass) (ls rs : List Stmt) (env : Env Handle) (fit
     nk = subst (λ z. MoreNodes z k'.marks.knows b.nodes) km mk.nodes
 
     nj : MoreNodes p.marks.knows j.marks.knows (a.nodes ++ b.nodes)
-    nj = nodes_joined p.marks.knows l'.marks.knows k'.marks.knows j.marks.knows a.nodes b.nodes fit.nodes nl nk jm
+    nj = nodes_joined p.marks.knows l'.marks.knows k'.marks.knows j.marks.knows a.nodes b.nodes fit.nodes nl nk jm unm
 
     el : MoreLinks (readers.left_of D T N p.readers.knows) l'.readers.knows a.links
     el = subst (λ z. MoreLinks z l'.readers.knows a.links) lr ml.links
@@ -389,7 +393,7 @@ module _ (t : Tables) (p l k : Pass) (ls rs : List Stmt) (env : Env Handle) (fit
           claims = λ c. subst (MoreClaims (claims_in c p) (claims_in c j)) (count_followed a b c) (claims_joined (claims_in c p) (claims_in c l') (claims_in c k') (claims_in c j) (count c a) (count c b) (claims_join c) (more_left c) (more_right c));
           values = values_joined S T p.values.knows l'.values.knows k'.values.knows j.values.knows a.mods b.mods tidy kl kk jv un (subst (λ z. MoreValues z l'.values.knows a.mods) lv ml.values) (subst (λ z. MoreValues z k'.values.knows b.mods) kv mk.values);
           nodes = nj;
-          links = links_joined D T N p.readers.knows l'.readers.knows k'.readers.knows j.readers.knows a.links b.links fit.sets.labels el ek jr;
+          links = links_joined D T N p.readers.knows l'.readers.knows k'.readers.knows j.readers.knows a.links b.links fit.sets.labels el ek jr one;
           marks = marks_joined p.marks.knows l'.marks.knows k'.marks.knows j.marks.knows (subst (λ z. MoreMarks z l'.marks.knows) lm ml.marks) (subst (λ z. MoreMarks z k'.marks.knows) km mk.marks) jm;
         }
 

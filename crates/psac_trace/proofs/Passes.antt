@@ -1,5 +1,6 @@
 -- What the calls of the tracing run owe each other, by what their parts leave.
 use Rattle.std.proofs.Common.{◌≡◌, ℕ, suc, zero, ◌≢◌, ⊎_elim, map, ◌+◌, ◌-◌, ◌≤◌, ◌<◌, Bool, true, false, List, [], ◌∷◌, ◌++◌, length, drop, take, get_or, Option, Some, None, Result, Ok, Err, refl, ap, sym, ◌∙◌, subst, arith, append-nil}
+use Rattle.std.specs.Prelude.{sum_by}
 use Rattle.std.proofs.Math.Seq.{take-length}
 use Rattle.psac_ops.specs.declared.plain.Handle.{Handle}
 use Rattle.psac_ops.specs.declared.plain.Plain.{Plain}
@@ -14,6 +15,7 @@ use Rattle.psac_values.specs.declared.view.ValueView.{ValueView}
 use Rattle.psac_values.specs.Steps.{Lacks, left_of, right_of, joined, drew}
 use Rattle.psac_values.specs.Knowing.{Has, Claims, United, wrote, three_of}
 use Rattle.psac_readers.specs.Steps as readers
+use Rattle.psac_readers.specs.Chained.{named}
 use Rattle.psac_marks.specs.Steps as marks
 use Rattle.psac_marks.specs.Passes.{Keeps, United as UnitedNodes}
 use Rattle.psac_fork.specs.declared.tables.Pass.{Pass}
@@ -51,7 +53,7 @@ use Rattle.psac_values.specs.Knowing.{Knows}
 use Rattle.psac_record.specs.Kept.{Stands, stands}
 use Rattle.psac_traced.proofs.Holds.{HoldsHere}
 use Rattle.psac_trace.specs.Rights.{In, held}
-use Rattle.psac_trace.specs.Raising.{Calm, puts, RaisesBy, Warns, Raisable, olds_after}
+use Rattle.psac_trace.specs.Raising.{Rewrote, Calm, Only, puts, RaisesBy, Warns, Raisable, olds_after}
 use Rattle.psac_trace.specs.Running.{WarnsAct}
 use Rattle.psac_trace.specs.Raising.{Roused}
 use Rattle.psac_traced.specs.Holds.{EachOf, Holds}
@@ -66,16 +68,17 @@ use Rattle.psac_trace.specs.Told.{Told}
 use Rattle.psac_trace.proofs.Results.{ref_is}
 use Rattle.psac_trace.proofs.Claims.{append_none}
 use Rattle.psac_trace.proofs.Heaps.{in_back, in_and_none, one_is, Fresh}
-use Rattle.psac_trace.proofs.Moves.{narrow, target_narrow, ready_looked, moved_looked}
+use Rattle.psac_trace.proofs.Moves.{narrow, target_narrow, ready_looked, moved_looked, still_looked}
 use Rattle.psac_trace.proofs.Moving.{entry_member}
 use Rattle.psac_trace.proofs.Raised.{calm_by, calm_then, slots_apart, puts_in}
 use Rattle.psac_trace.proofs.Tells.{told_within, gone, put_ready, seq_ready, inner_moved, both_within, first_ready, first_told, second_ready, left_end, right_end}
 use Rattle.psac_trace.proofs.Goes.{goes_at, readable}
-use Rattle.psac_trace.proofs.Raised.{raises_none, raises_before, raises_follows, raises_opened, raises_looked, claimed_knows, seen_in, links_in}
+use Rattle.psac_trace.proofs.Raised.{only_before, only_calm, only_none, raises_none, raises_before, raises_follows, raises_opened, raises_looked, claimed_knows, seen_in, links_in}
 use Rattle.psac_trace.proofs.Warning.{warns_bind, warns_make, warns_inner, warns_of_none, target_back, raisable_on, aged_on, saw_at}
 use Rattle.psac_trace.proofs.Behind.{Behind, behind_warns, behind_raises}
 use Rattle.psac_trace.proofs.Rousing.{moves_roused, roused_room, raises_put}
-use Rattle.psac_trace.proofs.Uniting.{calm_joined, warns_left, warns_right, raises_joined}
+use Rattle.psac_trace.proofs.Rewriting.{rewrote_same, rewrote_none, rewrote_looked, rewrote_opened, rewrote_claimed, rewrote_wrote, rewrote_then, rewrote_joined}
+use Rattle.psac_trace.proofs.Uniting.{calm_joined, warns_left, warns_right, only_joined, raises_joined}
 use Rattle.psac_trace.proofs.Claims.{over_past, drawn_more}
 use Rattle.psac_trace.proofs.Growing.{keeps_on}
 use Rattle.psac_trace.proofs.Moving.{vain_mine, moves_none, moves_then, full_then, full_more, BesideValues, values_room, moves_looked, moves_wrote, moves_claimed, moves_vain, fit_left, fit_right, parent_left, parent_right, room_left, room_right, moves_joined, full_left, full_right, over_joined}
@@ -85,8 +88,8 @@ use Rattle.psac_cut.specs.Based.{CutOn}
 use Rattle.psac_cut.proofs.Cutting.{StartsEmpty, Shortens, act_short}
 use Rattle.psac_cut.proofs.Based.{before, vain_new, at_new, at_body, at_block, bare_sides, cut_on_none}
 use Rattle.psac_trace.proofs.Asked.{sees_looked}
-use Rattle.psac_trace.proofs.Leaving.{Does, does_then, bared_then, bared_both, follows_bared, other_bared, room_over, room_follows, full_follows, full_before, most_is, NoMore, most_front, what_bared, what_then, all_front, all_follows, inside, step_made, step_end, sides_made, side_made, block_made, all_both, room_both, full_both, room_from, room_then}
-use Rattle.psac_trace.proofs.Looking.{same_what, what_both, looks_none, looks_from, looks_follow, looks_made, looks_wrote, looks_end, looks_left, looks_sides, looks_joined, looks_block, looks_whole, looks_after}
+use Rattle.psac_trace.proofs.Leaving.{Does, does_then, bared_then, bared_both, follows_bared, other_bared, room_over, room_follows, full_follows, full_before, most_is, NoMore, most_front, what_bared, what_then, same_what, all_front, all_follows, inside, step_made, step_end, sides_made, side_made, block_made, all_both, room_both, full_both, room_from, room_then}
+use Rattle.psac_trace.proofs.Looking.{what_both, looks_none, looks_from, looks_follow, looks_made, looks_wrote, looks_end, looks_left, looks_sides, looks_joined, looks_block, looks_whole, looks_after}
 use Rattle.psac_trace.proofs.Views.{claimed_sees, sees_same, kept_then, three_is}
 use Rattle.psac_trace.proofs.Forks.{left_tidy, right_tidy}
 use Rattle.psac_trace.proofs.Tells.{told_follows, tells_end, tells_deep, needs_bind, tells_bind, needs_make, tells_make, may_write, needs_put, tells_put, needs_body, needs_body_on, tells_body_on, tells_body_stop, tells_body_cut, needs_block, needs_block_on, tells_block_on, tells_block_stop, tells_block_first, needs_par_on, tells_par_on, tells_par_stop, tells_par_cut, tells_left_out, both_begun, Whole, needs_left, needs_right, tells_forked, needs_first, needs_second, tells_second, both_follows}
@@ -131,12 +134,15 @@ after_halt w deep first olds t node k (halt.Fault _ _) rest env p = (refl, refl)
 after_halt w deep first olds t node k (halt.Full _ _) rest env p = (refl, refl)
 after_halt w deep first olds t node k halt.NoMemory rest env p = (refl, refl)
 
+want_words : (p q : Pass) (k : Kept) → q.values.knows ≡ p.values.knows → puts k ≡ [] → Rewrote p.values.knows q.values.knows (puts k)
+want_words p q k same none = subst (Rewrote p.values.knows q.values.knows) (sym none) (rewrote_opened p.values.knows q.values.knows same)
+
 -- where slots or memory were wanting for nodes and links
-does_want : (g : Kept → Made) (t : Tables) (p q : Pass) (k : Kept) (begun : Made) (h : Halt) → begun.mods ≡ (g k).mods → length begun.nodes ≡ length (g k).nodes → length begun.links ≡ length (g k).links → HaltsFor t p q begun h → Does g t p q (halted k h)
-does_want g t p q k begun (halt.Fault _ _) m n l w = absurd w
-does_want g t p q k begun (halt.Full which at) m n l w =
-    record { made = w.made; moves = w.moves; all = (w.mods ∙ m, (let x = w.most.0 in let y = w.most.1 in (omega (arith, x, n), omega (arith, y, l)))); room = tt; full = w.full }
-does_want g t p q k begun halt.NoMemory m n l w = record { made = w.made; moves = w.moves; all = (w.mods ∙ m, (let x = w.most.0 in let y = w.most.1 in (omega (arith, x, n), omega (arith, y, l)))); room = tt; full = tt }
+does_want : (g : Kept → Made) (t : Tables) (p q : Pass) (k : Kept) (begun : Made) (h : Halt) → begun.mods ≡ (g k).mods → length begun.nodes ≡ length (g k).nodes → length begun.links ≡ length (g k).links → puts k ≡ [] → HaltsFor t p q begun h → Does g t p q (halted k h)
+does_want g t p q k begun (halt.Fault _ _) m n l e w = absurd w
+does_want g t p q k begun (halt.Full which at) m n l e w =
+    record { made = w.made; moves = w.moves; all = (w.mods ∙ m, (let x = w.most.0 in let y = w.most.1 in (omega (arith, x, n), omega (arith, y, l)))); room = tt; full = w.full; words = want_words p q k w.same e }
+does_want g t p q k begun halt.NoMemory m n l e w = record { made = w.made; moves = w.moves; all = (w.mods ∙ m, (let x = w.most.0 in let y = w.most.1 in (omega (arith, x, n), omega (arith, y, l)))); room = tt; full = tt; words = want_words p q k w.same e }
 
 halt_raises : (olds : List Handle) (t : Tables) (p q : Pass) (begun : Made) (k : Kept) (h : Halt) → HaltsFor t p q begun h → RaisesBy olds p q (halted k h)
 halt_raises olds t p q begun k (halt.Fault _ _) x = absurd x
@@ -145,8 +151,8 @@ halt_raises olds t p q begun k halt.NoMemory x = λ e y. ap (times y) x.quiet
 
 -- before a write the pass has looked
 told_looked : (deep : Tracing Handle) (first : Cuts Handle) (body : List Stmt) (st : Standing) (left : List ℕ) (env : Env Handle) (v u x : ValueView) (base : Heap) → Looked v u → (e : Ended (Rec Handle)) → Told deep first body st left env u x base e → Told deep first body st left env v x base e
-told_looked deep first body st left env v u x base l (Good r) t = (t.0, moved_looked st left env v u x base (rec.writes r) l t.1)
-told_looked deep first body st left env v u x base l (Fault r k n) t = t
+told_looked deep first body st left env v u x base l (Good r) t = (t.0, moved_looked st left env v u x base (rec.writes r) l t.1, still_looked st left env v u x l t.2)
+told_looked deep first body st left env v u x base l (Fault r k n) t = (t.0, t.1, still_looked st left env v u x l t.2)
 told_looked deep first body st left env v u x base l (Other r why) t = t
 
 tells_put_looked : (w : Setting Handle) (room : ℕ) (deep : Tracing Handle) (first : Cuts Handle) (rest : List Stmt) (env : Env Handle) (v u x : ValueView) (m : Handle) (y : Value Handle) (e : Ended (Rec Handle)) → Looked v u → TellsAct w room deep first (Put m y) rest env u x e → TellsAct w room deep first (Put m y) rest env v x e
@@ -166,7 +172,7 @@ halt_looks before t p q begun k halt.NoMemory x l = subst (λ z. Looks before p.
 
 module _ (w : Setting Handle) (funcs : List Func) (room : ℕ) (deep : Tracing Handle) (first : Cuts Handle) (none : StartsEmpty first) (short : Shortens deep first) (holding : HoldsHere w funcs deep) (olds : List Handle) (t : Tables) (a : Action Handle) (rest : List Stmt) (env : Env Handle) (par : Option Handle) (p : Pass) where
   act_of : (q : Pass) (e : Ended Kept) → Does (made_below par) t p q e → RaisesBy olds p q e → Looks (looks_for a) p.values.knows q.values.knows (what e) → TellsAct w room deep first a rest env p.values.knows q.values.knows (bared e) → LeavesAct w room deep first olds t a rest env par p q e
-  act_of q e d r l h = record { made = d.made; moves = d.moves; all = d.all; room = d.room; full = d.full; raises = r; looks = l; tells = h }
+  act_of q e d r l h = record { made = d.made; moves = d.moves; all = d.all; room = d.room; full = d.full; raises = r; words = d.words; looks = l; tells = h }
 
   none_looked : (q : Pass) (k : Kept) → looks_for a ≡ 0 → Looks 0 p.values.knows q.values.knows k → Looks (looks_for a) p.values.knows q.values.knows k
   none_looked q k is = subst (λ n. Looks n p.values.knows q.values.knows k) (sym is)
@@ -181,6 +187,7 @@ module _ (w : Setting Handle) (funcs : List Func) (room : ℕ) (deep : Tracing H
         room = tt;
         full = tt;
         raises = λ e y. refl;
+        words = rewrote_none p.values.knows;
         looks = none_looked p E (ap looks_for is) (looks_none p.values.knows p.values.knows E refl refl);
         tells = begun_tells w room deep first a rest env p.values.knows p.values.knows rec.E None b.room.0 refl (λ base. before same_handle room deep first rest env base none a);
       }
@@ -209,6 +216,7 @@ module _ (w : Setting Handle) (funcs : List Func) (room : ℕ) (deep : Tracing H
           room = l.room;
           full = l.full;
           raises = l.raises;
+          words = l.words;
           looks = none_looked q (what e) (ap looks_for is) l.looks;
           tells = subst (λ z. TellsAct w room deep first z rest env p.values.knows q.values.knows (bared e)) (sym is) (tells_bind w room deep first rest env p.values.knows x y q.values.knows (bared e) (subst (λ z. Tells w deep first rest z p.values.knows q.values.knows (bared e)) env_is l.tells));
         }
@@ -236,6 +244,7 @@ module _ (w : Setting Handle) (funcs : List Func) (room : ℕ) (deep : Tracing H
           room = tt;
           full = tt;
           raises = λ e y. ap (λ z. times y z.knows.marked) be.marks;
+          words = rewrote_claimed p.values.knows p'.values.knows m c l;
           looks = none_looked p' (A m E) (ap looks_for is) (looks_none p.values.knows p'.values.knows (A m E) claim_looks refl);
           tells = subst (λ z. TellsAct w room deep first z rest env p.values.knows p'.values.knows (Other (rec.A m rec.E) None)) (sym is) (λ base st mid end more r g. (
             subst (CutOn same_handle (cuts room deep first (Make d)) rest env base (rec.A m rec.E)) (sym o) (at_new same_handle room deep first rest env base d m rec.E 0 (record { run = λ heap wi. none rest (bind d (ref m) env) heap })),
@@ -262,12 +271,13 @@ module _ (w : Setting Handle) (funcs : List Func) (room : ℕ) (deep : Tracing H
       raises_make : (q : Pass) (made : Made) → Moves t p' q made → (e : Ended Kept) → RaisesBy olds p' q e → RaisesBy olds p q (then_ended (A m) e)
       raises_make q made mv (Good k) r =
           raises_before olds t p p' q one_made made (puts k) claim_moves mv (raises_none olds p p' (ap (λ z. z.knows.marked) be.marks) (claimed_knows p.values.knows p'.values.knows m c l)) (λ n x o i s j. absurd j) r
-      raises_make q made mv (Fault k i n) r = calm_then olds p p' q (λ e y. ap (λ z. times y z.knows.marked) be.marks) r
+      raises_make q made mv (Fault k i n) r =
+          only_before olds t p p' q one_made made (puts k) claim_moves mv (raises_none olds p p' (ap (λ z. z.knows.marked) be.marks) (claimed_knows p.values.knows p'.values.knows m c l)) (λ n x o i s j. absurd j) r
       raises_make q made mv (Other k why) r = calm_then olds p p' q (λ e y. ap (λ z. times y z.knows.marked) be.marks) r
 
       pub leaves_make : (q : Pass) (e f : Ended Kept) → Leaves w deep first olds t rest inner par p' q e → Follows (then_ended (A m) e) f → LeavesAct w room deep first olds t a rest env par p q f
       leaves_make q e f k h =
-          act_of q f (does_then (made_below par) (made_below par) (A m) t p p' q one_made e f (λ x. refl) claim_moves (record { made = k.made; moves = k.moves; all = k.all; room = k.room; full = k.full }) h)
+          act_of q f (does_then (made_below par) (made_below par) (A m) t p p' q one_made e f (λ x. refl) [] (λ x. refl) claim_moves (rewrote_claimed p.values.knows p'.values.knows m c l) (record { made = k.made; moves = k.moves; all = k.all; room = k.room; full = k.full; words = k.words }) h)
           (raises_follows olds p q (moves_then t p p' q one_made k.made claim_moves k.moves).marks (then_ended (A m) e) f h (raises_make q k.made k.moves e k.raises))
           (none_looked q (what f) (ap looks_for is) (looks_follow 0 p.values.knows q.values.knows (A m) e f h (looks_made p.values.knows p'.values.knows q.values.knows m (what e) claim_looks k.looks)))
           (act_then w room deep first short a rest env p.values.knows q (A m) (rec.A m) e f (λ x. refl) k.room h
@@ -290,6 +300,7 @@ module _ (w : Setting Handle) (funcs : List Func) (room : ℕ) (deep : Tracing H
         looks = none_looked p' E (ap looks_for is) (looks_none v p'.values.knows E (ap (λ (z : ValueView). z.looks) e) refl);
         full = record { list = list; past = past; drew = subst (λ (z : ValueView). times at.index v.claims.drawn < times at.index z.claims.drawn) (sym e) (drawn_more v.claims at.index) };
         raises = λ e y. ap (λ z. times y z.knows.marked) be.marks;
+        words = rewrote_same v p'.values.knows (vain_mine v p'.values.knows at.index h e) (ap (λ (z : ValueView). z.known) e);
         tells = subst (λ z. TellsAct w room deep first z rest env v p'.values.knows (Other rec.E (Some why))) (sym is) (λ base st mid end more r g. (
           subst (CutOn same_handle (cuts room deep first (Make d)) rest env base rec.E) (sym o) (vain_new same_handle room deep first rest env base d),
           λ m x i. sees_same v p'.values.knows (vain_mine v p'.values.knows at.index h e) (ap (λ (z : ValueView). z.known) e) m x (r.sees m x i),
@@ -333,6 +344,11 @@ module _ (w : Setting Handle) (funcs : List Func) (room : ℕ) (deep : Tracing H
 
         put_moves : Moves t p p' nothing
         put_moves = moves_then t p p1 p' nothing nothing rouse_moves write_moves
+
+        put_words : Rewrote p.values.knows p'.values.knows ((m, x) ∷ [])
+        put_words =
+            rewrote_then p.values.knows p1.values.knows p'.values.knows [] ((m, x) ∷ []) rouse_moves.stays write_moves.stays (rewrote_looked p.values.knows p1.values.knows ro.looked)
+            (subst (λ z. Rewrote p1.values.knows z ((m, x) ∷ [])) (sym wr) (rewrote_wrote p1.values.knows m x ws words tidy_on put_mine))
 
         -- the look at the old words, where there was one
         put_looks : p'.values.knows.looks ≡ p.values.knows.looks + ro.looks.0
@@ -381,8 +397,8 @@ module _ (w : Setting Handle) (funcs : List Func) (room : ℕ) (deep : Tracing H
 
         pub leaves_put : (q : Pass) (e f : Ended Kept) → Leaves w deep first olds t rest env par p' q e → Follows (then_ended (W m x) e) f → LeavesAct w room deep first olds t a rest env par p q f
         leaves_put q e f k h =
-            act_of q f (does_then (made_below par) (made_below par) (W m x) t p p' q nothing e f (λ z. refl) put_moves (record { made = k.made; moves = k.moves; all = k.all; room = k.room; full = k.full }) h)
-            (raises_follows olds p q (moves_then t p p' q nothing k.made put_moves k.moves).marks (then_ended (W m x) e) f h (behind_raises w olds t rest env p p' nothing written put_moves put_behind deep first (W m x) (λ z. refl) q k.made k.moves e k.raises k.tells))
+            act_of q f (does_then (made_below par) (made_below par) (W m x) t p p' q nothing e f (λ z. refl) ((m, x) ∷ []) (λ z. refl) put_moves put_words (record { made = k.made; moves = k.moves; all = k.all; room = k.room; full = k.full; words = k.words }) h)
+            (raises_follows olds p q (moves_then t p p' q nothing k.made put_moves k.moves).marks (then_ended (W m x) e) f h (behind_raises w olds t rest env p p' nothing written put_moves put_behind deep first (W m x) (λ z. refl) q k.made k.moves e k.raises k.words k.tells))
             (none_looked q (what f) (ap looks_for is) (looks_follow 0 p.values.knows q.values.knows (W m x) e f h (looks_wrote p.values.knows p'.values.knows q.values.knows m x (what e) ro.looks.0 ro.looks.1 put_looks k.looks)))
             (act_then w room deep first short a rest env p.values.knows q (W m x) (rec.W m (plain_value x)) e f (λ z. refl) k.room h
             (subst (λ z. TellsAct w room deep first z rest env p.values.knows q.values.knows (then_ended (rec.W m (plain_value x)) (bared e))) (sym is)
@@ -391,30 +407,34 @@ module _ (w : Setting Handle) (funcs : List Func) (room : ℕ) (deep : Tracing H
 
 -- behind an inner part, whose statement has this node
 module _ (w : Setting Handle) (funcs : List Func) (deep : Tracing Handle) (first : Cuts Handle) (olds : List Handle) (t : Tables) (rest : List Stmt) (env : Env Handle) (par : Option Handle) (node : Handle) (p u : Pass) where
+  part_words : (k : Kept) → Rewrote p.values.knows u.values.knows (puts k) → Rewrote p.values.knows u.values.knows (puts (S node k E))
+  part_words k = subst (Rewrote p.values.knows u.values.knows) (sym (append_none (puts k)))
+
   pub does_after : (e : Ended Kept) (q : Pass) (o : Ended Kept) → Does (inside par node) t p u e → LeavesAfter w deep first olds t node e rest env u q o → Does (made_below par) t p q o
   does_after (Good k) q o d l =
       does_then (made_below (Some node)) (made_below par) (S node k) t p u q d.made l.0 o
       (λ z. ap (λ m. followed m (made_below (Some node) z)) d.all ∙ step_made par node k z)
-      d.moves (record { made = l.1.made; moves = l.1.moves; all = l.1.all; room = l.1.room; full = l.1.full }) l.2
+      (puts k) (λ z. refl) d.moves d.words (record { made = l.1.made; moves = l.1.moves; all = l.1.all; room = l.1.room; full = l.1.full; words = l.1.words }) l.2
   does_after (Fault k c n) q o d l =
       subst (Does (made_below par) t p q) (sym l.1)
       (subst (λ z. Does (made_below par) t p z (Fault (S node k E) c n)) (sym l.0)
-      (record { made = d.made; moves = d.moves; all = d.all ∙ step_end par node k; room = d.room; full = tt }))
+      (record { made = d.made; moves = d.moves; all = d.all ∙ step_end par node k; room = d.room; full = tt; words = part_words k d.words }))
   does_after (Other k None) q o d l =
       subst (Does (made_below par) t p q) (sym l.1)
       (subst (λ z. Does (made_below par) t p z (Other (S node k E) None)) (sym l.0)
-      (record { made = d.made; moves = d.moves; all = subst (NoMore u d.made) (step_end par node k) d.all; room = tt; full = tt }))
+      (record { made = d.made; moves = d.moves; all = subst (NoMore u d.made) (step_end par node k) d.all; room = tt; full = tt; words = part_words k d.words }))
   does_after (Other k (Some c)) q o d l =
       subst (Does (made_below par) t p q) (sym l.1)
       (subst (λ z. Does (made_below par) t p z (Other (S node k E) (Some c))) (sym l.0)
-      (record { made = d.made; moves = d.moves; all = subst (NoMore u d.made) (step_end par node k) d.all; room = tt; full = d.full }))
+      (record { made = d.made; moves = d.moves; all = subst (NoMore u d.made) (step_end par node k) d.all; room = tt; full = d.full; words = part_words k d.words }))
 
   -- what was raised up to there, and behind it
-  pub raises_after : (made : Made) → Moves t p u made → Calm olds p u → (e : Ended Kept) (q : Pass) (o : Ended Kept) → ((k : Kept) → e ≡ Good k → Behind w olds rest env p u made k) → LeavesAfter w deep first olds t node e rest env u q o → RaisesBy olds p q o
-  raises_after made mv calm (Good k) q o past l =
-      raises_follows olds p q (moves_then t p u q made l.1.made mv l.1.moves).marks (then_ended (S node k) l.0) o l.2 (behind_raises w olds t rest env p u made k mv (past k refl) deep first (S node k) (λ z. refl) q l.1.made l.1.moves l.0 l.1.raises l.1.tells)
-  raises_after made mv calm (Fault k c n) q o past l = subst (RaisesBy olds p q) (sym l.1) (subst (Calm olds p) (sym l.0) calm)
-  raises_after made mv calm (Other k why) q o past l = subst (RaisesBy olds p q) (sym l.1) (subst (Calm olds p) (sym l.0) calm)
+  pub raises_after : (made : Made) → Moves t p u made → Calm olds p u → (e : Ended Kept) (q : Pass) (o : Ended Kept) → ((k : Kept) (i : FaultKind) (n : ℕ) → e ≡ Fault k i n → Only olds p u (puts k)) → ((k : Kept) → e ≡ Good k → Behind w olds rest env p u made k) → LeavesAfter w deep first olds t node e rest env u q o → RaisesBy olds p q o
+  raises_after made mv calm (Good k) q o only past l =
+      raises_follows olds p q (moves_then t p u q made l.1.made mv l.1.moves).marks (then_ended (S node k) l.0) o l.2 (behind_raises w olds t rest env p u made k mv (past k refl) deep first (S node k) (λ z. refl) q l.1.made l.1.moves l.0 l.1.raises l.1.words l.1.tells)
+  raises_after made mv calm (Fault k c n) q o only past l =
+      subst (RaisesBy olds p q) (sym l.1) (subst (λ z. Only olds p z (puts (S node k E))) (sym l.0) (subst (Only olds p u) (sym (append_none (puts k))) (only k c n refl)))
+  raises_after made mv calm (Other k why) q o only past l = subst (RaisesBy olds p q) (sym l.1) (subst (Calm olds p) (sym l.0) calm)
 
 -- a par, behind its node
 warns_on : (olds : List Handle) (t : Tables) (rest : List Stmt) (env : Env Handle) (p u : Pass) (a : Made) (ls rs : List Stmt) (w : Setting Handle) → Opens t p u a → a.links ≡ [] → WarnsAct w olds (Sides ls rs) rest env p → WarnsAct w olds (Sides ls rs) rest env u
@@ -449,7 +469,7 @@ module _ (w : Setting Handle) (funcs : List Func) (room : ℕ) (deep : Tracing H
     pub leaves_no_inner : (q : Pass) (node : Handle) (h : Halt) → HaltsFor t p q (nodes_only ((node, par) ∷ [])) h → LeavesAct w room deep first olds t (Body body inner) rest env par p q (halted (S node E E) h)
     leaves_no_inner q node h x =
         act_of w funcs room deep first none short holding olds t (Body body inner) rest env par p q (halted (S node E E) h)
-        (does_want (made_below par) t p q (S node E E) (nodes_only ((node, par) ∷ [])) h refl refl refl x)
+        (does_want (made_below par) t p q (S node E E) (nodes_only ((node, par) ∷ [])) h refl refl refl refl x)
         (halt_raises olds t p q (nodes_only ((node, par) ∷ [])) (S node E E) h x)
         (halt_looks 0 t p q (nodes_only ((node, par) ∷ [])) (S node E E) h x (looks_none v v (S node E E) refl refl))
         (halt_tells_act w room deep first (Body body inner) rest env t p q (nodes_only ((node, par) ∷ [])) (S node E E) h b.room (λ base. at_body same_handle room deep first rest env base body inner rec.E 0 (record { run = λ heap wi. none body inner heap })) x)
@@ -476,6 +496,7 @@ module _ (w : Setting Handle) (funcs : List Func) (room : ℕ) (deep : Tracing H
               all = all_front (nodes_only ((node, par) ∷ [])) (made_below (Some node)) u l.made e l.all;
               room = l.room;
               full = full_before t p p1 u (nodes_only ((node, par) ∷ [])) e op.moves l.full;
+              words = subst (λ z. Rewrote z u.values.knows (puts (what e))) op.same l.words;
             }
 
         abbrev inner_made : Made
@@ -504,6 +525,10 @@ module _ (w : Setting Handle) (funcs : List Func) (room : ℕ) (deep : Tracing H
               may = λ m o z. n.may m o (target_back n.st n.mid g.left n.end.unwritten env m g.settles g.within z);
             }
 
+        inner_only : (k : Kept) (i : FaultKind) (n : ℕ) → e ≡ Fault k i n → Only olds p u (puts k)
+        inner_only k i n is =
+            only_before olds t p p1 u (nodes_only ((node, par) ∷ [])) l.made (puts k) op.moves l.moves (raises_opened olds t p p1 (nodes_only ((node, par) ∷ [])) op) (λ m x o y s j. absurd j) (subst (RaisesBy olds p1 u) is l.raises)
+
         pub begins_after_inner : BeginsAfter w funcs olds t node e rest env u
         begins_after_inner = pick e l.room inner_told inner_behind
           where
@@ -523,7 +548,7 @@ module _ (w : Setting Handle) (funcs : List Func) (room : ℕ) (deep : Tracing H
             pick (Other k why) r told past = tt
 
         pub leaves_inner : (q : Pass) (o : Ended Kept) → LeavesAfter w deep first olds t node e rest env u q o → LeavesAct w room deep first olds t (Body body inner) rest env par p q o
-        leaves_inner q o h = act_of w funcs room deep first none short holding olds t (Body body inner) rest env par p q o (does_after w funcs deep first olds t rest env par node p u e q o inner_does h) (raises_after w funcs deep first olds t rest env par node p u inner_made inner_moves (calm_then olds p p1 u (λ z y. ap (times y) op.quiet) (calm_by olds p1 u l.moves.marks e l.raises)) e q o inner_behind h) (looks_after w deep first olds t node rest env 0 v u q e o (looks_from v p1.values.knows u.values.knows (what e) op.same l.looks) h) (pick e inner_told h)
+        leaves_inner q o h = act_of w funcs room deep first none short holding olds t (Body body inner) rest env par p q o (does_after w funcs deep first olds t rest env par node p u e q o inner_does h) (raises_after w funcs deep first olds t rest env par node p u inner_made inner_moves (calm_then olds p p1 u (λ z y. ap (times y) op.quiet) (calm_by olds p1 u l.moves.marks e l.raises)) e q o inner_only inner_behind h) (looks_after w deep first olds t node rest env 0 v u q e o (looks_from v p1.values.knows u.values.knows (what e) op.same l.looks) h) (pick e inner_told h)
           where
             pick : (e : Ended Kept) → Tells w deep first body inner v u.values.knows (bared e) → LeavesAfter w deep first olds t node e rest env u q o → TellsAct w room deep first (Body body inner) rest env v q.values.knows (bared o)
             pick (Good k) told h =
@@ -557,7 +582,7 @@ module _ (w : Setting Handle) (funcs : List Func) (room : ℕ) (deep : Tracing H
       pub leaves_no_block : (q : Pass) (node : Handle) (h : Halt) → HaltsFor t p q (read_made par node r) h → LeavesAct w room deep first olds t (Block number reads body inner) rest env par p q (halted (S node (R r E) E) h)
       leaves_no_block q node h x =
           act_of w funcs room deep first none short holding olds t (Block number reads body inner) rest env par p q (halted (S node (R r E) E) h)
-          (does_want (made_below par) t p q (S node (R r E) E) (read_made par node r) h refl refl refl x)
+          (does_want (made_below par) t p q (S node (R r E) E) (read_made par node r) h refl refl refl refl x)
           (halt_raises olds t p q (read_made par node r) (S node (R r E) E) h x)
           (halt_looks (length reads) t p q (read_made par node r) (S node (R r E) E) h x (begun_looks node))
           (halt_tells_act w room deep first (Block number reads body inner) rest env t p q (read_made par node r) (S node (R r E) E) h b.room begun_block x)
@@ -572,6 +597,7 @@ module _ (w : Setting Handle) (funcs : List Func) (room : ℕ) (deep : Tracing H
             room = tt;
             full = tt;
             raises = λ e y. ap (times y) op.quiet;
+            words = rewrote_opened p.values.knows p1.values.knows op.same;
             looks = subst (λ z. Looks (length reads) v z (S node (R r E) E)) (sym op.same) (begun_looks node);
             tells = begun_tells w room deep first (Block number reads body inner) rest env v p1.values.knows (rec.S (bare (R r E)) rec.E) None b.room.0 op.same begun_block;
           }
@@ -597,7 +623,7 @@ module _ (w : Setting Handle) (funcs : List Func) (room : ℕ) (deep : Tracing H
         block_told = subst (λ z. Tells w deep first body inner z u.values.knows (bared e)) op.same l.tells
 
         block_does : Does (inside par node) t p u f
-        block_does = does_then (made_below (Some r.node)) (inside par node) (R r) t p p1 u (read_made par node r) e f (block_made par node r) op.moves (record { made = l.made; moves = l.moves; all = l.all; room = l.room; full = l.full }) fo
+        block_does = does_then (made_below (Some r.node)) (inside par node) (R r) t p p1 u (read_made par node r) e f (block_made par node r) [] (λ z. refl) op.moves (rewrote_opened p.values.knows p1.values.knows op.same) (record { made = l.made; moves = l.moves; all = l.all; room = l.room; full = l.full; words = l.words }) fo
 
         abbrev all_made : Made
         all_made = followed (read_made par node r) l.made
@@ -610,6 +636,34 @@ module _ (w : Setting Handle) (funcs : List Func) (room : ℕ) (deep : Tracing H
         good_then (Fault k i n) c h = absurd cc
         good_then (Other k why) c h = absurd cc
 
+        stop_then : (e : Ended Kept) (c : Kept) (i : FaultKind) (n : ℕ) → then_ended (R r) e ≡ Fault c i n → (k : Kept) × (e ≡ Fault k i n) × (R r k ≡ c)
+        stop_then (Good k) c i n h = absurd cc
+        stop_then (Fault k j m) c i n h =
+            let kind : j ≡ i = cc in
+            let line : m ≡ n = cc in
+            (k, ap (λ z. Fault k z m) kind ∙ ap (λ z. Fault k i z) line, ap (λ (z : Ended Kept). what z) h)
+        stop_then (Other k why) c i n h = absurd cc
+
+        -- the links that were entered are of nothing that the block wrote
+        unread : Began level number env reads r → (e : Ended (Rec Handle)) (k : Kept) → Told deep first body b.warns.goes.names b.warns.goes.end.unwritten inner v u.values.knows b.warns.base e → Fresh (rec.writes (bare k)) b.warns.base → ((m : Handle) (x : Plain) → Member (m, x) (puts k) → Has u.values.knows m) → (m : Handle) (x : Plain) → Member m olds → Member (m, x) (puts k) → (s : Stands) → Member s (read_made par node r).links → s.of.slot ≢ m.slot
+        unread began e k told fresh owned m x o i s j =
+            let n = b.warns in
+            let g = n.goes in
+            let a = read_linked began n.base n.saw s j in
+            let sees = told_within deep first body g.names g.end.unwritten inner v u.values.knows n.base e told in
+            slots_apart u.values.knows l.moves.stays.tidy s.of m a.0 (sees s.of a.0 a.1) (owned m x i) (λ h. in_and_none n.base m (subst (In n.base) h a) (fresh m (puts_in k m x i)))
+
+        block_only : Began level number env reads r → (c : Kept) (i : FaultKind) (n : ℕ) → f ≡ Fault c i n → Only olds p u (puts c)
+        block_only began c i m is =
+            let n = b.warns in
+            let g = n.goes in
+            let whole = stop_then e c i m (subst (Follows (then_ended (R r) e)) is fo) in
+            let k = whole.0 in
+            let told = subst (λ z. Tells w deep first body inner v u.values.knows (bared z)) whole.1 block_told n.base g.names g.end g.meets g.ready in
+            let words = subst (λ z. Rewrote p1.values.knows u.values.knows (puts (what z))) whole.1 l.words in
+            subst (λ z. Only olds p u (puts z)) whole.2
+            (only_before olds t p p1 u (read_made par node r) l.made (puts k) op.moves l.moves (raises_opened olds t p p1 (read_made par node r) op) (unread began (Fault (bare k) i m) k told told.0.fresh words.owned) (subst (RaisesBy olds p1 u) whole.1 l.raises))
+
         block_behind : Began level number env reads r → (c : Kept) → f ≡ Good c → Behind w olds rest env p u all_made c
         block_behind began c is =
             let n = b.warns in
@@ -619,12 +673,7 @@ module _ (w : Setting Handle) (funcs : List Func) (room : ℕ) (deep : Tracing H
             let told = subst (λ z. Tells w deep first body inner v u.values.knows (bared z)) whole.1 block_told n.base g.names g.end g.meets g.ready in
             let all : l.made ≡ made_below (Some r.node) k = subst (AllMade (made_below (Some r.node)) u l.made) whole.1 l.all in
             let holds = subst (λ z. Holds z n.base (bare k)) n.ready.same (holding body inner n.base (bare k) Done (told.0.run n.base (λ m x h. h))) in
-            let unread : (m : Handle) (x : Plain) → Member m olds → Member (m, x) (puts k) → (s : Stands) → Member s (read_made par node r).links → s.of.slot ≢ m.slot =
-            λ m x o i s j. (
-            let a = read_linked began n.base n.saw s j in
             let ru = subst (RaisesBy olds p1 u) whole.1 l.raises in
-            let sees = told_within deep first body g.names g.end.unwritten inner v u.values.knows n.base (Good (bare k)) told in
-            slots_apart u.values.knows l.moves.stays.tidy s.of m a.0 (sees s.of a.0 a.1) (ru.owned m x i) (λ h. in_and_none n.base m (subst (In n.base) h a) (told.0.fresh m (puts_in k m x i)))) in
             subst (Behind w olds rest env p u all_made) whole.2
             (record {
               aged = n.aged;
@@ -634,7 +683,7 @@ module _ (w : Setting Handle) (funcs : List Func) (room : ℕ) (deep : Tracing H
               meets = n.meets;
               ready = seq_ready w room deep first rest env v (Block number reads body inner) u.values.knows block_kept n.base n.st n.mid n.end n.meets n.ready g.left g.within g.settles (rec.writes (bare k)) (inner_moved w room deep first rest env v n.st n.mid n.base body inner g u.values.knows (rec.writes (bare k)) told.1);
               begun = told.0.fresh;
-              raised = raises_before olds t p p1 u (read_made par node r) l.made (puts k) op.moves l.moves (raises_opened olds t p p1 (read_made par node r) op) unread (subst (RaisesBy olds p1 u) whole.1 l.raises);
+              raised = raises_before olds t p p1 u (read_made par node r) l.made (puts k) op.moves l.moves (raises_opened olds t p p1 (read_made par node r) op) (unread began (Good (bare k)) k told told.0.fresh ru.owned) ru;
               linked = λ s i. ⊎_elim
                   (λ (j : Member s (read_made par node r).links). in_back (rec.writes (bare k)) n.base s.of (read_linked began n.base n.saw s j))
                   (λ (j : Member s l.made.links). links_in n.base k holds s (subst (λ (z : Made). Member s z.links) all j))
@@ -697,14 +746,14 @@ module _ (w : Setting Handle) (funcs : List Func) (room : ℕ) (deep : Tracing H
           block_looks = looks_follow (length reads) v u.values.knows (R r) e f fo (looks_block v u.values.knows r reads (what e) began.reads (looks_from v p1.values.knows u.values.knows (what e) op.same l.looks))
 
           pub leaves_block : (q : Pass) (o : Ended Kept) → LeavesAfter w deep first olds t node f rest env u q o → LeavesAct w room deep first olds t (Block number reads body inner) rest env par p q o
-          leaves_block q o h = act_of w funcs room deep first none short holding olds t (Block number reads body inner) rest env par p q o (does_after w funcs deep first olds t rest env par node p u f q o block_does h) (raises_after w funcs deep first olds t rest env par node p u all_made block_moves (calm_then olds p p1 u (λ z y. ap (times y) op.quiet) (calm_by olds p1 u l.moves.marks e l.raises)) f q o (block_behind began) h) (looks_after w deep first olds t node rest env (length reads) v u q f o block_looks h) (after_tells q o f fo h)
+          leaves_block q o h = act_of w funcs room deep first none short holding olds t (Block number reads body inner) rest env par p q o (does_after w funcs deep first olds t rest env par node p u f q o block_does h) (raises_after w funcs deep first olds t rest env par node p u all_made block_moves (calm_then olds p p1 u (λ z y. ap (times y) op.quiet) (calm_by olds p1 u l.moves.marks e l.raises)) f q o (block_only began) (block_behind began) h) (looks_after w deep first olds t node rest env (length reads) v u q f o block_looks h) (after_tells q o f fo h)
 
   -- par
   module _ (ls rs : List Stmt) (b : BeginsAct w funcs olds t (Sides ls rs) rest env par p) where
     pub leaves_no_par : (q : Pass) (node : Handle) (h : Halt) → HaltsFor t p q (nodes_only ((node, par) ∷ [])) h → LeavesAct w room deep first olds t (Sides ls rs) rest env par p q (halted (S node E E) h)
     leaves_no_par q node h x =
         act_of w funcs room deep first none short holding olds t (Sides ls rs) rest env par p q (halted (S node E E) h)
-        (does_want (made_below par) t p q (S node E E) (nodes_only ((node, par) ∷ [])) h refl refl refl x)
+        (does_want (made_below par) t p q (S node E E) (nodes_only ((node, par) ∷ [])) h refl refl refl refl x)
         (halt_raises olds t p q (nodes_only ((node, par) ∷ [])) (S node E E) h x)
         (halt_looks 0 t p q (nodes_only ((node, par) ∷ [])) (S node E E) h x (looks_none v v (S node E E) refl refl))
         (halt_tells_act w room deep first (Sides ls rs) rest env t p q (nodes_only ((node, par) ∷ [])) (S node E E) h b.room (λ base. bare_sides same_handle room deep first rest env base ls rs) x)
@@ -728,6 +777,7 @@ module _ (w : Setting Handle) (funcs : List Func) (room : ℕ) (deep : Tracing H
               all = all_front (nodes_only ((node, par) ∷ [])) (made_below (Some node)) u l.made e l.all;
               room = l.room;
               full = full_before t p p1 u (nodes_only ((node, par) ∷ [])) e op.moves l.full;
+              words = subst (λ z. Rewrote z u.values.knows (puts (what e))) op.same l.words;
             }
 
         abbrev par_made : Made
@@ -760,6 +810,10 @@ module _ (w : Setting Handle) (funcs : List Func) (room : ℕ) (deep : Tracing H
               may = λ m o z. n.may m o (target_back n.st n.mid (in_both g.one g.two) n.end.unwritten env m g.settles within z);
             }
 
+        par_only : (k : Kept) (i : FaultKind) (n : ℕ) → e ≡ Fault k i n → Only olds p u (puts k)
+        par_only k i n is =
+            only_before olds t p p1 u (nodes_only ((node, par) ∷ [])) l.made (puts k) op.moves l.moves (raises_opened olds t p p1 (nodes_only ((node, par) ∷ [])) op) (λ m x o y s j. absurd j) (subst (RaisesBy olds p1 u) is l.raises)
+
         pub begins_after_par : BeginsAfter w funcs olds t node e rest env u
         begins_after_par = pick e l.room par_told par_behind
           where
@@ -779,7 +833,7 @@ module _ (w : Setting Handle) (funcs : List Func) (room : ℕ) (deep : Tracing H
             pick (Other k why) r told past = tt
 
         pub leaves_par : (q : Pass) (o : Ended Kept) → LeavesAfter w deep first olds t node e rest env u q o → LeavesAct w room deep first olds t (Sides ls rs) rest env par p q o
-        leaves_par q o h = act_of w funcs room deep first none short holding olds t (Sides ls rs) rest env par p q o (does_after w funcs deep first olds t rest env par node p u e q o par_does h) (raises_after w funcs deep first olds t rest env par node p u par_made par_moves (calm_then olds p p1 u (λ z y. ap (times y) op.quiet) (calm_by olds p1 u l.moves.marks e l.raises)) e q o par_behind h) (looks_after w deep first olds t node rest env 0 v u q e o (looks_from v p1.values.knows u.values.knows (what e) op.same l.looks) h) (pick e par_told h)
+        leaves_par q o h = act_of w funcs room deep first none short holding olds t (Sides ls rs) rest env par p q o (does_after w funcs deep first olds t rest env par node p u e q o par_does h) (raises_after w funcs deep first olds t rest env par node p u par_made par_moves (calm_then olds p p1 u (λ z y. ap (times y) op.quiet) (calm_by olds p1 u l.moves.marks e l.raises)) e q o par_only par_behind h) (looks_after w deep first olds t node rest env 0 v u q e o (looks_from v p1.values.knows u.values.knows (what e) op.same l.looks) h) (pick e par_told h)
           where
             pick : (e : Ended Kept) → TellsBoth w room deep first ls rs rest env v u.values.knows (bared e) → LeavesAfter w deep first olds t node e rest env u q o → TellsAct w room deep first (Sides ls rs) rest env v q.values.knows (bared o)
             pick (Good k) told h =
@@ -795,12 +849,12 @@ module _ (w : Setting Handle) (funcs : List Func) (room : ℕ) (deep : Tracing H
 -- both sides
 module _ (w : Setting Handle) (funcs : List Func) (room : ℕ) (deep : Tracing Handle) (first : Cuts Handle) (none : StartsEmpty first) (short : Shortens deep first) (holding : HoldsHere w funcs deep) (olds : List Handle) (t : Tables) (ls rs rest : List Stmt) (env : Env Handle) (par : Option Handle) (p : Pass) (b : BeginsAct w funcs olds t (Sides ls rs) rest env par p) where
   both_of : (q : Pass) (e : Ended Kept) → Does (made_below par) t p q e → RaisesBy olds p q e → Looks 0 p.values.knows q.values.knows (what e) → TellsBoth w room deep first ls rs rest env p.values.knows q.values.knows (bared e) → LeavesBoth w room deep first olds t ls rs rest env par p q e
-  both_of q e d r l h = record { made = d.made; moves = d.moves; all = d.all; room = d.room; full = d.full; raises = r; looks = l; tells = h }
+  both_of q e d r l h = record { made = d.made; moves = d.moves; all = d.all; room = d.room; full = d.full; raises = r; words = d.words; looks = l; tells = h }
 
   pub leaves_no_sides : (q : Pass) (node : Handle) (h : Halt) → HaltsFor t p q (nodes_only ((node, par) ∷ [])) h → LeavesBoth w room deep first olds t ls rs rest env par p q (halted (P node E E) h)
   leaves_no_sides q node h x =
       both_of q (halted (P node E E) h)
-      (does_want (made_below par) t p q (P node E E) (nodes_only ((node, par) ∷ [])) h refl refl refl x)
+      (does_want (made_below par) t p q (P node E E) (nodes_only ((node, par) ∷ [])) h refl refl refl refl x)
       (halt_raises olds t p q (nodes_only ((node, par) ∷ [])) (P node E E) h x)
       (halt_looks 0 t p q (nodes_only ((node, par) ∷ [])) (P node E E) h x (looks_none p.values.knows p.values.knows (P node E E) refl refl))
       (halt_tells h x)
@@ -824,8 +878,8 @@ module _ (w : Setting Handle) (funcs : List Func) (room : ℕ) (deep : Tracing H
     tidy_here = op.moves.stays.tidy
 
     -- both sides, that were begun behind the node
-    whole : (j : Pass) (made : Made) (one two o : Ended Kept) → Moves t p1 j made → RaisesBy olds p1 j (both_ended (P node) one two) → AllMade (made_below par) j (followed one_node made) (both_ended (P node) one two) → RoomAfter j (both_ended (P node) one two) → FullBy p1 j (both_ended (P node) one two) → Looks 0 p1.values.knows j.values.knows (P node (what one) (what two)) → TellsBoth w room deep first ls rs rest env p1.values.knows j.values.knows (both_ended rec.P (bared one) (bared two)) → Follows (both_ended (P node) one two) o → LeavesBoth w room deep first olds t ls rs rest env par p j o
-    whole j made one two o mv ra all ro fu lo tells fo =
+    whole : (j : Pass) (made : Made) (one two o : Ended Kept) → Moves t p1 j made → RaisesBy olds p1 j (both_ended (P node) one two) → AllMade (made_below par) j (followed one_node made) (both_ended (P node) one two) → RoomAfter j (both_ended (P node) one two) → FullBy p1 j (both_ended (P node) one two) → Rewrote p1.values.knows j.values.knows (puts (what one) ++ puts (what two)) → Looks 0 p1.values.knows j.values.knows (P node (what one) (what two)) → TellsBoth w room deep first ls rs rest env p1.values.knows j.values.knows (both_ended rec.P (bared one) (bared two)) → Follows (both_ended (P node) one two) o → LeavesBoth w room deep first olds t ls rs rest env par p j o
+    whole j made one two o mv ra all ro fu wo lo tells fo =
         let e = both_ended (P node) one two in
         let told : TellsBoth w room deep first ls rs rest env p1.values.knows j.values.knows (bared e) = subst (TellsBoth w room deep first ls rs rest env p1.values.knows j.values.knows) (sym (bared_both node one two)) tells in
         record {
@@ -835,13 +889,14 @@ module _ (w : Setting Handle) (funcs : List Func) (room : ℕ) (deep : Tracing H
           room = room_follows j e o fo ro;
           full = full_follows p j e o fo (full_before t p p1 j one_node e op.moves fu);
           raises = raises_follows olds p j (moves_then t p p1 j one_node made op.moves mv).marks e o fo (opened e ra);
+          words = subst (λ z. Rewrote z j.values.knows (puts (what o))) op.same (subst (λ k. Rewrote p1.values.knows j.values.knows (puts k)) (sym (what_both node one two) ∙ same_what e o fo) wo);
           looks = looks_from p.values.knows p1.values.knows j.values.knows (what o) op.same (subst (Looks 0 p1.values.knows j.values.knows) (sym (what_both node one two) ∙ same_what e o fo) lo);
           tells = subst (λ z. TellsBoth w room deep first ls rs rest env z j.values.knows (bared o)) op.same (both_follows w room deep first rest env p1.values.knows ls rs short j.values.knows (bared e) (bared o) (whole_of j e ro) (follows_bared e o fo) told);
         }
       where
         opened : (e : Ended Kept) → RaisesBy olds p1 j e → RaisesBy olds p j e
         opened (Good k) r = raises_before olds t p p1 j one_node made (puts k) op.moves mv (raises_opened olds t p p1 one_node op) (λ m x y i s n. absurd n) r
-        opened (Fault k i n) r = calm_then olds p p1 j (λ z y. ap (times y) op.quiet) r
+        opened (Fault k i n) r = only_before olds t p p1 j one_node made (puts k) op.moves mv (raises_opened olds t p p1 one_node op) (λ m x y i s n. absurd n) r
         opened (Other k why) r = calm_then olds p p1 j (λ z y. ap (times y) op.quiet) r
 
     warns_here : WarnsAct w olds (Sides ls rs) rest env p1
@@ -868,6 +923,9 @@ module _ (w : Setting Handle) (funcs : List Func) (room : ℕ) (deep : Tracing H
     pub begins_first : Begins w funcs olds t ls env (Some node) p1
     begins_first = record { of = op.moves.of; checked = b.checked; room = op.room; tidy = tidy_here; fit = op.moves.fit; parent = kn; needs = needs_first w room deep first rest env p1.values.knows ls rs needs_here; warns = first_warns }
 
+    left_words : (u : Pass) (k : Kept) → Rewrote p1.values.knows u.values.knows (puts k) → Rewrote p.values.knows u.values.knows (puts (P node k E))
+    left_words u k w = subst (λ z. Rewrote z u.values.knows (puts (P node k E))) op.same (subst (Rewrote p1.values.knows u.values.knows) (sym (append_none (puts k))) w)
+
     pub leaves_out : (u : Pass) (k : Kept) (r : Result Record Halt) → is_other (ended_of k r) ≡ true → Leaves w deep first olds t ls env (Some node) p1 u (ended_of k r) → LeavesBoth w room deep first olds t ls rs rest env par p u (ended_of (P node k E) r)
     leaves_out u k (Ok r) h l = absurd cc
     leaves_out u k (Err (halt.Fault _ _)) h l = absurd cc
@@ -879,6 +937,7 @@ module _ (w : Setting Handle) (funcs : List Func) (room : ℕ) (deep : Tracing H
           room = tt;
           full = full_then t p p1 u one_node (record { which = which; index = at.index; room = at.room }) op.moves l.full;
           raises = calm_then olds p p1 u (λ e y. ap (times y) op.quiet) l.raises;
+          words = left_words u k l.words;
           looks = looks_from p.values.knows p1.values.knows u.values.knows (P node k E) op.same (looks_left p1.values.knows u.values.knows node k l.looks);
           tells = subst (λ z. TellsBoth w room deep first ls rs rest env z u.values.knows (Other (rec.P (bare k) rec.E) (Some (record { which = which; index = at.index; room = at.room })))) op.same (tells_left_out w room deep first rest env p1.values.knows ls rs tidy_here u.values.knows l.moves.stays none (bare k) (Some (record { which = which; index = at.index; room = at.room })) l.tells);
         }
@@ -890,6 +949,7 @@ module _ (w : Setting Handle) (funcs : List Func) (room : ℕ) (deep : Tracing H
           room = tt;
           full = tt;
           raises = calm_then olds p p1 u (λ e y. ap (times y) op.quiet) l.raises;
+          words = left_words u k l.words;
           looks = looks_from p.values.knows p1.values.knows u.values.knows (P node k E) op.same (looks_left p1.values.knows u.values.knows node k l.looks);
           tells = subst (λ z. TellsBoth w room deep first ls rs rest env z u.values.knows (Other (rec.P (bare k) rec.E) None)) op.same (tells_left_out w room deep first rest env p1.values.knows ls rs tidy_here u.values.knows l.moves.stays none (bare k) None l.tells);
         }
@@ -947,22 +1007,23 @@ module _ (w : Setting Handle) (funcs : List Func) (room : ℕ) (deep : Tracing H
             warns = second_warns one second_behind second_needs;
           }
 
-      second_raises : (e two : Ended Kept) (j : Pass) (more : Made) → Moves t u j more → Calm olds p1 u → ((k : Kept) → e ≡ Good k → Behind w olds rs env p1 u l.made k) → RaisesBy (olds_after olds e) u j two → Tells w deep first rs env u.values.knows j.values.knows (bared two) → RaisesBy olds p1 j (both_ended (P node) e two)
-      second_raises (Good k) two j more mv calm past r tells = subst (RaisesBy olds p1 j) (both_good node k two) (behind_raises w olds t rs env p1 u l.made k l.moves (past k refl) deep first (P node k) (λ z. refl) j more mv two r tells)
-      second_raises (Fault k i c) (Good b) j more mv calm past r tells = λ e y. calm_by [] u j mv.marks (Good b) r refl y ∙ calm e y
-      second_raises (Fault k i c) (Fault b d f) j more mv calm past r tells = λ e y. calm_by [] u j mv.marks (Fault b d f) r refl y ∙ calm e y
-      second_raises (Fault k i c) (Other b why) j more mv calm past r tells = λ e y. calm_by [] u j mv.marks (Other b why) r refl y ∙ calm e y
-      second_raises (Other k why) two j more mv calm past r tells = λ e y. calm_by [] u j mv.marks two r refl y ∙ calm e y
+      second_raises : (e two : Ended Kept) (j : Pass) (more : Made) → Moves t u j more → Calm olds p1 u → ((k : Kept) → e ≡ Good k → Behind w olds rs env p1 u l.made k) → RaisesBy olds p1 u e → RaisesBy (olds_after olds e) u j two → Rewrote u.values.knows j.values.knows (puts (what two)) → Tells w deep first rs env u.values.knows j.values.knows (bared two) → RaisesBy olds p1 j (both_ended (P node) e two)
+      second_raises (Good k) two j more mv calm past ra r words tells = subst (RaisesBy olds p1 j) (both_good node k two) (behind_raises w olds t rs env p1 u l.made k l.moves (past k refl) deep first (P node k) (λ z. refl) j more mv two r words tells)
+      second_raises (Fault k i c) (Good b) j more mv calm past ra r words tells = only_calm olds p1 u j (puts k) (puts b) ra (calm_by [] u j mv.marks (Good b) r refl)
+      second_raises (Fault k i c) (Fault b d f) j more mv calm past ra r words tells = only_calm olds p1 u j (puts k) (puts b) ra (calm_by [] u j mv.marks (Fault b d f) r refl)
+      second_raises (Fault k i c) (Other b why) j more mv calm past ra r words tells = λ e y. calm_by [] u j mv.marks (Other b why) r refl y ∙ calm e y
+      second_raises (Other k why) two j more mv calm past ra r words tells = λ e y. calm_by [] u j mv.marks two r refl y ∙ calm e y
 
       pub leaves_second : (j : Pass) (two o : Ended Kept) → Leaves w deep first (olds_after olds one) t rs env (Some node) u j two → Follows (both_ended (P node) one two) o → LeavesBoth w room deep first olds t ls rs rest env par p j o
       leaves_second j two o m fo =
           let hr = room_first one h l.room in
           whole j (followed l.made m.made) one two o
           (moves_then t p1 u j l.made m.made l.moves m.moves)
-          (second_raises one two j m.made m.moves (calm_by olds p1 u l.moves.marks one l.raises) second_behind m.raises m.tells)
+          (second_raises one two j m.made m.moves (calm_by olds p1 u l.moves.marks one l.raises) second_behind l.raises m.raises m.words m.tells)
           (all_both (made_below (Some node)) u j j l.made m.made (P node) (made_below par) one_node (sides_made par node) (λ c. omega arith) one two l.room m.room l.all m.all)
           (room_both j u j (P node) (λ x y. y) one two l.room m.room)
           (full_both p1 j p1 u u j (P node) (λ c f. full_more t p1 u j m.made c m.moves f) (λ c f. full_then t p1 u j l.made c l.moves f) one two l.full m.full)
+          (rewrote_then p1.values.knows u.values.knows j.values.knows (puts (what one)) (puts (what two)) l.moves.stays m.moves.stays l.words m.words)
           (looks_sides p1.values.knows u.values.knows j.values.knows node (what one) (what two) l.looks m.looks)
           (tells_second w room deep first rest env p1.values.knows ls rs tidy_here u.values.knows l.moves.stays j.values.knows m.moves.stays (bared one) (bared two) (other_bared one ∙ h) l.tells m.tells)
           fo
@@ -1008,17 +1069,18 @@ module _ (w : Setting Handle) (funcs : List Func) (room : ℕ) (deep : Tracing H
         pub join_sides : (c : List Bool) × (l'.values.knows.claims.branch ≡ c ++ false ∷ []) × (k'.values.knows.claims.branch ≡ c ++ true ∷ [])
         join_sides = (p1.values.knows.claims.branch, ll.moves.stays.branch ∙ ap (λ (z : ValueView). z.claims.branch) lv, lk.moves.stays.branch ∙ ap (λ (z : ValueView). z.claims.branch) kv)
 
-        pub leaves_joined : (j : Pass) → IsOf j t → j.values.knows ≡ joined l'.values.knows k'.values.knows → United l'.values.knows k'.values.knows j.values.knows → j.readers.knows ≡ readers.joined l'.readers.knows k'.readers.knows → j.marks.knows ≡ marks.joined l'.marks.knows k'.marks.knows → UnitedNodes l'.marks.knows k'.marks.knows j.marks.knows → (o : Ended Kept) → Follows (both_ended (P node) one two) o → LeavesBoth w room deep first olds t ls rs rest env par p j o
-        leaves_joined j ofj jv un jr jm unm o fo =
-            let over = over_joined t p1 l k ls rs env op.moves.fit lv kv lr kr lm km l' k' j ll.made lk.made ll.moves lk.moves ofj tidy_here jv un jr jm unm in
+        pub leaves_joined : (j : Pass) → IsOf j t → j.values.knows ≡ joined l'.values.knows k'.values.knows → United l'.values.knows k'.values.knows j.values.knows → j.readers.knows ≡ readers.joined l'.readers.knows k'.readers.knows → ((i : ℕ) → sum_by (named i) j.readers.knows.links ≤ 1) → j.marks.knows ≡ marks.joined l'.marks.knows k'.marks.knows → UnitedNodes l'.marks.knows k'.marks.knows j.marks.knows → (o : Ended Kept) → Follows (both_ended (P node) one two) o → LeavesBoth w room deep first olds t ls rs rest env par p j o
+        leaves_joined j ofj jv un jr one_each jm unm o fo =
+            let over = over_joined t p1 l k ls rs env op.moves.fit lv kv lr kr lm km l' k' j ll.made lk.made ll.moves lk.moves ofj tidy_here jv un jr one_each jm unm in
             let kl = subst (λ z. Stays z l'.values.knows) lv ll.moves.stays in
             let kk = subst (λ z. Stays z k'.values.knows) kv lk.moves.stays in
             whole j (followed ll.made lk.made) one two o
-            (moves_joined t p1 l k ls rs env op.moves.fit lv kv lr kr lm km l' k' j ll.made lk.made ll.moves lk.moves ofj tidy_here jv un jr jm unm)
-            (raises one two ll.raises lk.raises)
+            (moves_joined t p1 l k ls rs env op.moves.fit lv kv lr kr lm km l' k' j ll.made lk.made ll.moves lk.moves ofj tidy_here jv un jr one_each jm unm)
+            (raises one two ll.raises lk.raises ll.words lk.words)
             (all_both (made_below (Some node)) l' k' j ll.made lk.made (P node) (made_below par) one_node (sides_made par node) (λ c. let o = over c in omega (arith, o)) one two ll.room lk.room ll.all lk.all)
             (room_both j l' k' (P node) (λ x y. room_from j (λ c. over c ∙ ap (λ n. n + (claims_in c k').over) (room_over l' x c) ∙ ap (λ n. 0 + n) (room_over k' y c))) one two ll.room lk.room)
-            (full_both p1 j l l' k k' (P node) (full_left t p1 l k ls rs env op.moves.fit lv kv lr kr lm km l' k' j ll.made lk.made ll.moves lk.moves ofj tidy_here jv un jr jm unm) (full_right t p1 l k ls rs env op.moves.fit lv kv lr kr lm km l' k' j ll.made lk.made ll.moves lk.moves ofj tidy_here jv un jr jm unm) one two ll.full lk.full)
+            (full_both p1 j l l' k k' (P node) (full_left t p1 l k ls rs env op.moves.fit lv kv lr kr lm km l' k' j ll.made lk.made ll.moves lk.moves ofj tidy_here jv un jr one_each jm unm) (full_right t p1 l k ls rs env op.moves.fit lv kv lr kr lm km l' k' j ll.made lk.made ll.moves lk.moves ofj tidy_here jv un jr one_each jm unm) one two ll.full lk.full)
+            (rewrote_joined (neither ls rs env) (writes_slot rs env) p1.values.knows tidy_here l'.values.knows k'.values.knows j.values.knows kl kk jv un (puts (what one)) (puts (what two)) (subst (λ z. Rewrote z l'.values.knows (puts (what one))) lv ll.words) (subst (λ z. Rewrote z k'.values.knows (puts (what two))) kv lk.words))
             (looks_joined p1.values.knows l.values.knows l'.values.knows k.values.knows k'.values.knows j.values.knows node (what one) (what two) (ap (λ (z : ValueView). z.looks) lv) (ap (λ (z : ValueView). z.looks) kv) (ap (λ (z : ValueView). z.looks) jv) ll.looks lk.looks)
             (tells_forked w room deep first rest env p1.values.knows ls rs tidy_here l'.values.knows k'.values.knows j.values.knows kl kk jv un short (bared one) (bared two) (whole_of l' one ll.room) (whole_of k' two lk.room) (subst (λ z. Tells w deep first ls env z l'.values.knows (bared one)) lv ll.tells) (subst (λ z. Tells w deep first rs env z k'.values.knows (bared two)) kv lk.tells))
             fo
@@ -1026,21 +1088,24 @@ module _ (w : Setting Handle) (funcs : List Func) (room : ℕ) (deep : Tracing H
             sides_calm : Calm olds l l' → Calm olds k k' → Calm olds p1 j
             sides_calm x y = calm_joined w olds p1 l k ls rs rest env op.moves.fit.nodes tidy_here warns_here.aged lv kv lr kr lm km l' k' j jm x y
 
-            raises : (e f : Ended Kept) → RaisesBy olds l l' e → RaisesBy olds k k' f → RaisesBy olds p1 j (both_ended (P node) e f)
-            raises (Good a) (Good c) x y = raises_joined w olds p1 l k ls rs rest env op.moves.fit.nodes tidy_here warns_here.aged lv kv lr kr lm km l' k' j ll.moves.stays lk.moves.stays jv un jm (puts a) (puts c) x y
-            raises (Good a) (Fault c i n) x y = sides_calm (calm_by olds l l' ll.moves.marks (Good a) x) (calm_by olds k k' lk.moves.marks (Fault c i n) y)
-            raises (Good a) (Other c why) x y = sides_calm (calm_by olds l l' ll.moves.marks (Good a) x) (calm_by olds k k' lk.moves.marks (Other c why) y)
-            raises (Fault a i n) (Good c) x y = sides_calm (calm_by olds l l' ll.moves.marks (Fault a i n) x) (calm_by olds k k' lk.moves.marks (Good c) y)
-            raises (Fault a i n) (Fault c d f) x y = sides_calm (calm_by olds l l' ll.moves.marks (Fault a i n) x) (calm_by olds k k' lk.moves.marks (Fault c d f) y)
-            raises (Fault a i n) (Other c why) x y = sides_calm (calm_by olds l l' ll.moves.marks (Fault a i n) x) (calm_by olds k k' lk.moves.marks (Other c why) y)
-            raises (Other a why) f x y = sides_calm (calm_by olds l l' ll.moves.marks (Other a why) x) (calm_by olds k k' lk.moves.marks f y)
+            only : (a c : Kept) → Only olds l l' (puts a) → Only olds k k' (puts c) → Rewrote l.values.knows l'.values.knows (puts a) → Rewrote k.values.knows k'.values.knows (puts c) → Only olds p1 j (puts a ++ puts c)
+            only a c x y wl wk = only_joined w olds p1 l k ls rs rest env op.moves.fit.nodes tidy_here warns_here.aged lv kv lr kr lm km l' k' j ll.moves.stays lk.moves.stays jv un jm (puts a) (puts c) wl.owned wk.owned x y
+
+            raises : (e f : Ended Kept) → RaisesBy olds l l' e → RaisesBy olds k k' f → Rewrote l.values.knows l'.values.knows (puts (what e)) → Rewrote k.values.knows k'.values.knows (puts (what f)) → RaisesBy olds p1 j (both_ended (P node) e f)
+            raises (Good a) (Good c) x y wl wk = raises_joined w olds p1 l k ls rs rest env op.moves.fit.nodes tidy_here warns_here.aged lv kv lr kr lm km l' k' j ll.moves.stays lk.moves.stays jv un jm (puts a) (puts c) x y
+            raises (Good a) (Fault c i n) x y wl wk = only a c x.only y wl wk
+            raises (Good a) (Other c why) x y wl wk = sides_calm (calm_by olds l l' ll.moves.marks (Good a) x) (calm_by olds k k' lk.moves.marks (Other c why) y)
+            raises (Fault a i n) (Good c) x y wl wk = only a c x y.only wl wk
+            raises (Fault a i n) (Fault c d f) x y wl wk = only a c x y wl wk
+            raises (Fault a i n) (Other c why) x y wl wk = sides_calm (calm_by olds l l' ll.moves.marks (Fault a i n) x) (calm_by olds k k' lk.moves.marks (Other c why) y)
+            raises (Other a why) f x y wl wk = sides_calm (calm_by olds l l' ll.moves.marks (Other a why) x) (calm_by olds k k' lk.moves.marks f y)
 
 -- a body
 module _ (w : Setting Handle) (funcs : List Func) (olds : List Handle) (t : Tables) (env : Env Handle) (par : Option Handle) (p : Pass) where
   pub leaves_end : (room : ℕ) (body : List Stmt) (k : Kept) → length body < 1 → k ≡ E → Begins w funcs olds t body env par p → Leaves w (traced w funcs room) (cut_short w funcs room) olds t body env par p p (Good k)
   leaves_end room [] k h e b =
       subst (λ z. Leaves w (traced w funcs room) (cut_short w funcs room) olds t [] env par p p (Good z)) (sym e)
-      (record { made = nothing; moves = moves_none t p b.of b.tidy b.fit; all = refl; room = b.room; full = tt; raises = raises_none olds p p refl (λ m us k. k); looks = looks_none p.values.knows p.values.knows E refl refl; tells = tells_end w funcs room (cut_short w funcs room) env p.values.knows })
+      (record { made = nothing; moves = moves_none t p b.of b.tidy b.fit; all = refl; room = b.room; full = tt; raises = raises_none olds p p refl (λ m us k. k); words = rewrote_none p.values.knows; looks = looks_none p.values.knows p.values.knows E refl refl; tells = tells_end w funcs room (cut_short w funcs room) env p.values.knows })
   leaves_end room (s ∷ rest) k h e b = absurd (omega arith)
 
   body_splits : (body : List Stmt) (s : Stmt) → 1 ≤ length body → s ≡ get_or body 0 s → s ∷ drop 1 body ≡ body
@@ -1064,7 +1129,8 @@ module _ (w : Setting Handle) (funcs : List Func) (olds : List Handle) (t : Tabl
         all = refl;
         room = b.room;
         full = tt;
-        raises = λ e y. refl;
+        raises = only_none olds p p [] (λ y. refl);
+        words = rewrote_none p.values.knows;
         looks = looks_none p.values.knows p.values.knows E refl refl;
         tells = subst (λ k. Tells w (traced w funcs k) (cut_short w funcs k) body env p.values.knows p.values.knows (Fault rec.E TooDeep n)) (sym z)
             (subst (λ x. Tells w (traced w funcs 0) (cut_short w funcs 0) x env p.values.knows p.values.knows (Fault rec.E TooDeep n)) is
@@ -1094,6 +1160,7 @@ module _ (w : Setting Handle) (funcs : List Func) (olds : List Handle) (t : Tabl
             room = tt;
             full = tt;
             raises = λ e y. ap (λ z. times y z.knows.marked) be.marks;
+            words = rewrote_looked p.values.knows p'.values.knows l;
             looks = looks_none p.values.knows p'.values.knows E un refl;
             tells = λ base st end m r. (subst (CutOn same_handle (cut_short w funcs room) body env base rec.E) (sym asked_room.0) (cut_on_none same_handle w funcs room body env base), λ n x e. sees_looked p.values.knows p'.values.knows n x l (r.sees n x e));
           }
@@ -1106,7 +1173,8 @@ module _ (w : Setting Handle) (funcs : List Func) (olds : List Handle) (t : Tabl
             all = refl;
             room = asked_room;
             full = tt;
-            raises = λ e y. ap (λ z. times y z.knows.marked) be.marks;
+            raises = only_none olds p p' [] (λ y. ap (λ z. times y z.knows.marked) be.marks);
+            words = rewrote_looked p.values.knows p'.values.knows l;
             looks = looks_none p.values.knows p'.values.knows E un refl;
             tells = subst (λ z. Tells w (traced w funcs z) (cut_short w funcs z) body env p.values.knows p'.values.knows (Fault rec.E k n)) (suc_less room h)
                 (subst (λ x. Tells w (traced w funcs (suc (room - 1))) (cut_short w funcs (suc (room - 1))) x env p.values.knows p'.values.knows (Fault rec.E k n)) is
@@ -1158,6 +1226,7 @@ module _ (w : Setting Handle) (funcs : List Func) (olds : List Handle) (t : Tabl
               room = k.room;
               full = full_before t p p' q nothing e asked_moves k.full;
               raises = looked_raises e k.raises;
+              words = rewrote_then p.values.knows p'.values.knows q.values.knows [] (puts (what e)) asked_moves.stays k.moves.stays (rewrote_looked p.values.knows p'.values.knows l) k.words;
               looks = looks_whole (looks_for a) p.values.knows p'.values.knows q.values.knows (what e) saw k.looks;
               tells = subst (λ z. Tells w (traced w funcs z) (cut_short w funcs z) body env p.values.knows q.values.knows (bared e)) (suc_less room h)
                   (subst (λ x. Tells w (traced w funcs (suc (room - 1))) (cut_short w funcs (suc (room - 1))) x env p.values.knows q.values.knows (bared e)) is
@@ -1166,7 +1235,7 @@ module _ (w : Setting Handle) (funcs : List Func) (olds : List Handle) (t : Tabl
           where
             looked_raises : (e : Ended Kept) → RaisesBy olds p' q e → RaisesBy olds p q e
             looked_raises (Good c) r = raises_before olds t p p' q nothing k.made (puts c) asked_moves k.moves (raises_looked olds p p' be l) (λ m x o i y j. absurd j) r
-            looked_raises (Fault c i n) r = calm_then olds p p' q (λ e y. ap (λ z. times y z.knows.marked) be.marks) r
+            looked_raises (Fault c i n) r = only_before olds t p p' q nothing k.made (puts c) asked_moves k.moves (raises_looked olds p p' be l) (λ m x o i y j. absurd j) r
             looked_raises (Other c why) r = calm_then olds p p' q (λ e y. ap (λ z. times y z.knows.marked) be.marks) r
 
 -- the same, with what tells the pass in between first

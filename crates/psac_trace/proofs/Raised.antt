@@ -23,7 +23,7 @@ use Rattle.psac_record.specs.Kept.{Kept, E, A, W, S, P, R, Stands, stands, links
 use Rattle.psac_trace.specs.Rights.{Heap, held, In, Within, Sees, Shares, Tidy}
 use Rattle.psac_trace.specs.Grown.{MoreMarks, Made, Moves}
 use Rattle.psac_trace.specs.Told.{Ended, Good, Fault, Other, then_ended, Follows}
-use Rattle.psac_trace.specs.Raising.{Calm, puts, Raises, RaisesBy}
+use Rattle.psac_trace.specs.Raising.{Calm, Only, puts, Raises, RaisesBy}
 use Rattle.psac_values.specs.Steps.{Lacks, new_owned}
 use Rattle.psac_values.specs.Knowing.{Claims, wrote, rewritten}
 use Rattle.psac_slots.proofs.Pairs.{map_member}
@@ -106,7 +106,7 @@ raises_none olds p q e f =
       owned = λ m x i. absurd i;
     }
 
-module _ (olds : List Handle) (t : Tables) (p u q : Pass) (a b : Made) (ws more : List (Handle × Plain)) (ma : Moves t p u a) (mb : Moves t u q b) (ra : Raises olds p u ws) (rb : Raises olds u q more)
+module _ (olds : List Handle) (t : Tables) (p u q : Pass) (a b : Made) (ws more : List (Handle × Plain)) (ma : Moves t p u a) (mb : Moves t u q b) (ra : Raises olds p u ws)
     (apart : (m : Handle) (x y : Plain) → Member (m, x) ws → Member (m, y) more → ⊥)
     (unread : (m : Handle) (x : Plain) → Member m olds → Member (m, x) more → (s : Stands) → Member s a.links → s.of.slot ≢ m.slot) where
   known_then : (m : Handle) (x : Plain) (us : List ℕ) → Member (m, x) more → Knows p.values.knows m us → Knows u.values.knows m us
@@ -122,8 +122,20 @@ module _ (olds : List Handle) (t : Tables) (p u q : Pass) (a b : Made) (ws more 
       ])
       (leads_on p.marks.knows u.marks.knows a.nodes ma.nodes ma.marks) ns l
 
-  pub raises_then : Raises olds p q (ws ++ more)
-  raises_then =
+  pub only_then : Only olds u q more → Only olds p q (ws ++ more)
+  only_then ob ns h y l =
+      let first = ra.only ns (λ m x o i d. h m x o (member_left (m, x) ws more i) d) y in
+      let second = ob ns (λ m x o i d. lead_then m x ns o i (h m x o (member_right (m, x) ws more i) (λ k. d (known_then m x (words_of x) i k)))) y in
+      elim (less_or (times y p.marks.knows.marked) (times y u.marks.knows.marked) (times y q.marks.knows.marked) l) [
+        | inl z ↦ first z
+        | inr z ↦ second z
+      ]
+    where
+      less_or : (i j k : ℕ) → i < k → (i < j) ⊎ (j < k)
+      less_or i j k h = elim (zero_or (j - i)) [ inl z ↦ inr (omega (arith, z, h)) | inr z ↦ inl (omega (arith, z)) ]
+
+  pub raises_then : Raises olds u q more → Raises olds p q (ws ++ more)
+  raises_then rb =
       record {
         warned = λ m x us o i k d.
             elim (member_cases (m, x) ws more i) [
@@ -134,13 +146,7 @@ module _ (olds : List Handle) (t : Tables) (p u q : Pass) (a b : Made) (ws more 
                   (λ n z. z)
                   (rb.warned m x us o j (known_then m x us j k) d)
             ];
-        only = λ ns h y l.
-            let first = ra.only ns (λ m x o i d. h m x o (member_left (m, x) ws more i) d) y in
-            let second = rb.only ns (λ m x o i d. lead_then m x ns o i (h m x o (member_right (m, x) ws more i) (λ k. d (known_then m x (words_of x) i k)))) y in
-            elim (less_or (times y p.marks.knows.marked) (times y u.marks.knows.marked) (times y q.marks.knows.marked) l) [
-              | inl z ↦ first z
-              | inr z ↦ second z
-            ];
+        only = only_then rb.only;
         stays = λ m us k n. rb.stays m us (ra.stays m us k (λ x i. n x (member_left (m, x) ws more i))) (λ x i. n x (member_right (m, x) ws more i));
         owned = λ m x i.
             elim (member_cases (m, x) ws more i) [
@@ -148,9 +154,6 @@ module _ (olds : List Handle) (t : Tables) (p u q : Pass) (a b : Made) (ws more 
               | inr j ↦ rb.owned m x j
             ];
       }
-    where
-      less_or : (i j k : ℕ) → i < k → (i < j) ⊎ (j < k)
-      less_or i j k h = elim (zero_or (j - i)) [ inl z ↦ inr (omega (arith, z, h)) | inr z ↦ inl (omega (arith, z)) ]
 
 -- what is read and what is written later stand in different slots
 pub slots_apart : (v : ValueView) → Tidy v → (n m : Handle) (x : Value Handle) → Sees v n x → Has v m → (n ≡ m → ⊥) → n.slot ≢ m.slot
@@ -176,16 +179,19 @@ module _ (base : Heap) (t k : Kept) (q : Pass) (s : Sequel base q.values.knows (
       slots_apart q.values.knows tidy n m o.0 (s.sees n o.0 o.1) h (λ e. in_and_none (writes (bare t) ++ base) m (subst (In (writes (bare t) ++ base)) e o) (s.fresh m (puts_in k m x i)))
 
 -- ends
-pub calm_by : (olds : List Handle) (p q : Pass) → MoreMarks p.marks.knows q.marks.knows → (e : Ended Kept) → RaisesBy olds p q e → Calm olds p q
-calm_by olds p q grow (Good k) r = λ none y.
+calm_only : (olds : List Handle) (p q : Pass) → MoreMarks p.marks.knows q.marks.knows → (ws : List (Handle × Plain)) → Only olds p q ws → Calm olds p q
+calm_only olds p q grow ws only none y =
     let i = times y p.marks.knows.marked in
     let j = times y q.marks.knows.marked in
     let g = grow.marked y in
     elim (zero_or (j - i)) [
       | inl z ↦ omega (arith, z, g)
-      | inr z ↦ absurd (r.only [] (λ m x o n d. absurd (subst (Member m) none o)) y (omega (arith, z)))
+      | inr z ↦ absurd (only [] (λ m x o n d. absurd (subst (Member m) none o)) y (omega (arith, z)))
     ]
-calm_by olds p q grow (Fault k i n) r = r
+
+pub calm_by : (olds : List Handle) (p q : Pass) → MoreMarks p.marks.knows q.marks.knows → (e : Ended Kept) → RaisesBy olds p q e → Calm olds p q
+calm_by olds p q grow (Good k) r = calm_only olds p q grow (puts k) r.only
+calm_by olds p q grow (Fault k i n) r = calm_only olds p q grow (puts k) r
 calm_by olds p q grow (Other k why) r = r
 
 pub calm_then : (olds : List Handle) (p u q : Pass) → Calm olds p u → Calm olds u q → Calm olds p q
@@ -199,7 +205,18 @@ raises_follows olds p q grow e (Other k None) f r = calm_by olds p q grow e r
 
 -- in front of a part that wrote nothing
 pub raises_before : (olds : List Handle) (t : Tables) (p u q : Pass) (a b : Made) (ws : List (Handle × Plain)) → Moves t p u a → Moves t u q b → Raises olds p u [] → ((m : Handle) (x : Plain) → Member m olds → Member (m, x) ws → (s : Stands) → Member s a.links → s.of.slot ≢ m.slot) → Raises olds u q ws → Raises olds p q ws
-raises_before olds t p u q a b ws ma mb none unread r = raises_then olds t p u q a b [] ws ma mb none r (λ m x y i j. absurd i) unread
+raises_before olds t p u q a b ws ma mb none unread r = raises_then olds t p u q a b [] ws ma mb none (λ m x y i j. absurd i) unread r
+
+pub only_before : (olds : List Handle) (t : Tables) (p u q : Pass) (a b : Made) (ws : List (Handle × Plain)) → Moves t p u a → Moves t u q b → Raises olds p u [] → ((m : Handle) (x : Plain) → Member m olds → Member (m, x) ws → (s : Stands) → Member s a.links → s.of.slot ≢ m.slot) → Only olds u q ws → Only olds p q ws
+only_before olds t p u q a b ws ma mb none unread r = only_then olds t p u q a b [] ws ma mb none (λ m x y i j. absurd i) unread r
+
+-- and in front of a part that marked nothing
+pub only_calm : (olds : List Handle) (p u q : Pass) (ws more : List (Handle × Plain)) → Only olds p u ws → ((y : ℕ) → times y q.marks.knows.marked ≡ times y u.marks.knows.marked) → Only olds p q (ws ++ more)
+only_calm olds p u q ws more only same ns h y l =
+    only ns (λ m x o i d. h m x o (member_left (m, x) ws more i) d) y (let e = same y in omega (arith, l, e))
+
+pub only_none : (olds : List Handle) (p q : Pass) (ws : List (Handle × Plain)) → ((y : ℕ) → times y q.marks.knows.marked ≡ times y p.marks.knows.marked) → Only olds p q ws
+only_none olds p q ws same ns h y l = absurd (let e = same y in omega (arith, l, e))
 
 pub raises_opened : (olds : List Handle) (t : Tables) (p u : Pass) (a : Made) → Opens t p u a → Raises olds p u []
 raises_opened olds t p u a op = raises_none olds p u op.quiet (λ m us k. subst (λ v. Knows v m us) (sym op.same) k)

@@ -1,4 +1,5 @@
 -- Nodes and links that are claimed before a body runs.
+use Rattle.std.specs.Prelude.{sum_by}
 use Rattle.std.proofs.Common.{◌≡◌, ℕ, zero, suc, ◌+◌, ◌≤◌, ◌<◌, false, List, [], ◌∷◌, ◌++◌, map, length, drop, Option, Some, slice_index_or, refl, ap, sym, ◌∙◌, subst, inl, inr, ⊎_elim, arith, length-append}
 use Rattle.psac_ops.specs.declared.plain.Handle.{Handle}
 use Rattle.psac_ops.specs.Value.{Value}
@@ -13,10 +14,12 @@ use Rattle.psac_values.specs.declared.view.ValueView.{ValueView}
 use Rattle.psac_values.specs.Knowing.{all_words}
 use Rattle.psac_readers.specs.declared.view.ReadersView.{ReadersView}
 use Rattle.psac_readers.specs.Steps as readers
+use Rattle.psac_readers.specs.Chained.{named}
 use Rattle.psac_marks.specs.declared.view.OwnView.{OwnView}
 use Rattle.psac_marks.specs.declared.view.MarksView.{MarksView}
 use Rattle.psac_marks.specs.Marked as marks_rule
 use Rattle.psac_marks.specs.Steps as marks
+use Rattle.psac_marks.specs.Steps.{Lacks}
 use Rattle.psac_marks.specs.Passes.{Claims as ClaimsNode, Keeps, IsKept, slot_of}
 use Rattle.psac_fork.specs.declared.tables.Pass.{Pass}
 use Rattle.psac_fork.specs.declared.tables.Tables.{Tables}
@@ -54,13 +57,13 @@ some_left xs i d h = let e = ap length (drop_at xs i d h) in omega (arith, e)
 
 -- a node
 module _ (t : Tables) (p q : Pass) (of : IsOf p t) (tidy : Tidy p.values.knows) (fit : Fit p) (room : HasRoom p) (b : BesideMarks p q) where
-  pub node_opens : (h : Handle) (par : Option Handle) → ParentKept par p.marks.knows → ClaimsNode p.marks.knows h (slot_of par) q.marks.knows → q.marks.knows.claims.over ≡ 0 → IsKept q.marks.knows h.slot → Opens t p q (nodes_only ((h, par) ∷ [])) × Keeps q.marks.knows h
-  node_opens h par kept c o k =
+  pub node_opens : (h : Handle) (par : Option Handle) → ParentKept par p.marks.knows → ClaimsNode p.marks.knows h (slot_of par) q.marks.knows → Lacks p.marks.knows h.slot → q.marks.knows.claims.over ≡ 0 → IsKept q.marks.knows h.slot → Opens t p q (nodes_only ((h, par) ∷ [])) × Keeps q.marks.knows h
+  node_opens h par kept c lacks o k =
       let u = q.marks.knows in
       let new : OwnView = record { node = h; parent = slot_of par } in
       let own_is : u.own ≡ new ∷ p.marks.knows.own = ap (λ (z : MarksView). z.own) c.becomes in
       let here : Member new u.own = subst (Member new) (sym own_is) (inl refl) in
-      (record { moves = moves_node t p q of tidy fit b h par kept c; same = ap (λ z. z.knows) b.values; quiet = ap (λ (z : MarksView). z.marked) c.becomes; room = marks_room t p q of tidy fit b room o }, (marks_rule.own_place u.claims.branch new, member_left (marks_rule.own_place u.claims.branch new) (map (marks_rule.own_place u.claims.branch) u.own) (map marks_rule.shared_place u.shared) (map_member (marks_rule.own_place u.claims.branch) new u.own here), refl, k))
+      (record { moves = moves_node t p q of tidy fit b h par kept c lacks; same = ap (λ z. z.knows) b.values; quiet = ap (λ (z : MarksView). z.marked) c.becomes; room = marks_room t p q of tidy fit b room o }, (marks_rule.own_place u.claims.branch new, member_left (marks_rule.own_place u.claims.branch new) (map (marks_rule.own_place u.claims.branch) u.own) (map marks_rule.shared_place u.shared) (map_member (marks_rule.own_place u.claims.branch) new u.own here), refl, k))
 
   pub node_halts : (h : Handle) (par : Option Handle) (at : Full) → at.room ≡ length p.marks.knows.claims.list → at.room ≤ at.index → q.marks.knows ≡ marks.drew p.marks.knows at.index → HaltsFor t p q (nodes_only ((h, par) ∷ [])) (halt.Full cap.Nodes at)
   node_halts h par at list past e =
@@ -150,8 +153,8 @@ whole_length node all seen =
     omega (arith, a, b, c, d)
 
 module _ (t : Tables) (p q : Pass) (of : IsOf p t) (tidy : Tidy p.values.knows) (fit : Fit p) (room : HasRoom p) (b : BesideReaders p q) where
-  pub link_opens : (s : Stands) → readers.Entered p.readers.knows s.of.slot (word_of s.node) s.link.index q.readers.knows → ((x : ℕ) → readers.Has x p.readers.knows → readers.Has x q.readers.knows) → q.readers.knows.claims.over ≡ 0 → Opens t p q (links_only (s ∷ []))
-  link_opens s e has o = record { moves = moves_link t p q of tidy fit b s e has; same = ap (λ z. z.knows) b.values; quiet = ap (λ z. z.knows.marked) b.marks; room = readers_room t p q of tidy fit b room o }
+  pub link_opens : (s : Stands) → readers.Entered p.readers.knows s.of.slot (word_of s.node) s.link.index q.readers.knows → sum_by (named s.link.index) p.readers.knows.links ≡ 0 → ((x : ℕ) → readers.Has x p.readers.knows → readers.Has x q.readers.knows) → q.readers.knows.claims.over ≡ 0 → Opens t p q (links_only (s ∷ []))
+  link_opens s e new has o = record { moves = moves_link t p q of tidy fit b s e new has; same = ap (λ z. z.knows) b.values; quiet = ap (λ z. z.knows.marked) b.marks; room = readers_room t p q of tidy fit b room o }
 
   pub link_halts : (s : Stands) (at : Full) → at.room ≡ length p.readers.knows.claims.list → at.room ≤ at.index → q.readers.knows ≡ readers.drew p.readers.knows at.index → HaltsFor t p q (links_only (s ∷ [])) (halt.Full cap.Links at)
   link_halts s at list past e =

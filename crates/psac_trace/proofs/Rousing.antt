@@ -10,7 +10,7 @@ use Rattle.psac_slots.specs.Claiming.{times}
 use Rattle.psac_values.specs.declared.view.ValueView.{ValueView}
 use Rattle.psac_values.specs.Knowing.{Has, Knows, wrote}
 use Rattle.psac_readers.specs.declared.view.ReadersView.{ReadersView}
-use Rattle.psac_readers.specs.Chained.{mods_of}
+use Rattle.psac_readers.specs.Chained.{named, mods_of}
 use Rattle.psac_readers.specs.Steps as readers
 use Rattle.psac_marks.specs.declared.view.MarksView.{MarksView}
 use Rattle.psac_fork.specs.declared.tables.Pass.{Pass}
@@ -46,6 +46,7 @@ module _ (t : Tables) (olds : List Handle) (m : Handle) (ws : List ℕ) (p q : P
         branch = ap (λ z. z.branch) r.claims;
         mods = r.mods;
         links = λ g. let a = ap (sum_by g) r.links in let b : sum_by (λ (s : Stands). g (as_link s)) [] ≡ 0 = refl in omega (arith, a, b);
+        once = λ l h. let a : sum_by (λ (s : Stands). named l (as_link s)) [] ≡ 0 = refl in absurd (omega (arith, a, h));
         walk = λ g. ap (sum_by g) r.walk;
         shared = r.shared;
       }

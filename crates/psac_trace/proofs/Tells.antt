@@ -24,7 +24,7 @@ use Rattle.psac_laws.proofs.Places.{none_some, some_is, nat_same, not_true, not_
 use Rattle.psac_laws.proofs.Rules.{or_left, has_without, has_both, without_within, both_in, leaves}
 use Rattle.psac_traced.specs.Rec.{Rec, E, A, W, S, P, R, writes}
 use Rattle.psac_traced.specs.Traced.{Traces as Tracing, listed, acts, acts_or_stops, goes_on, traced}
-use Rattle.psac_trace.specs.Rights.{Heap, held, In, Within, Wider, Sees, Tidy, Kept, Ready, Moved}
+use Rattle.psac_trace.specs.Rights.{Heap, held, In, Within, Wider, Sees, Tidy, Kept, Target, Ready, Moved, Unchanged}
 use Rattle.psac_ops.specs.Named.{same_handle}
 use Rattle.psac_cut.specs.CutShort.{Cuts, cuts}
 use Rattle.psac_cut.specs.Based.{CutOn}
@@ -38,7 +38,7 @@ use Rattle.psac_trace.proofs.Results.{ref_is}
 use Rattle.psac_trace.proofs.Heaps.{in_or_not, in_and_none, held_back, within_front, within_fresh, one_is, Fresh, fresh_then, fresh_sides}
 use Rattle.psac_trace.proofs.Views.{wrote_kept}
 use Rattle.psac_trace.proofs.Forks.{joined_sees_left, joined_sees_right}
-use Rattle.psac_trace.proofs.Moves.{Narrow, narrow, ready_inner, ready_bind, ready_make, ready_next, ready_left, ready_right, ready_second, moved_none, moved_bind, moved_make, moved_put, moved_then, moved_sides, moved_second}
+use Rattle.psac_trace.proofs.Moves.{Narrow, narrow, target_narrow, ready_inner, ready_bind, ready_make, ready_next, ready_left, ready_right, ready_second, moved_none, moved_bind, moved_make, moved_put, moved_then, moved_sides, moved_second, still_bind, still_make, still_put, still_then, still_sides, still_second}
 
 -- what is seen in front of what isn't written is seen
 pub within_base : (ws base : Heap) (u : ValueView) → Fresh ws base → Within (ws ++ base) (Sees u) → Within base (Sees u)
@@ -76,14 +76,15 @@ pub lift_told : (deep over : Tracing Handle) (first part : Cuts Handle) (rest bo
     → ((heap : Heap) → Wider base heap → (r : Rec Handle) (end : End) → ((h : Heap) → Wider basis h → deep rest inner h r end) → over body env heap (f r) end)
     → ((r : Rec Handle) → Fresh (writes r) basis → Fresh (writes (f r)) base)
     → ((r : Rec Handle) → Fresh (writes r) basis → Moved sr lr inner u x basis (writes r) → Moved st left env v x base (writes (f r)))
+    → (Unchanged sr lr inner u x → Unchanged st left env v x)
     → (Within basis (Sees x) → Within base (Sees x))
     → ((r : Rec Handle) (n : ℕ) → CutOn same_handle first rest inner basis r n → CutOn same_handle part body env base (f r) n)
     → (e : Ended (Rec Handle)) → Told deep first rest sr lr inner u x basis e → Told over part body st left env v x base (then_ended f e)
-lift_told deep over first part rest body inner env v u x base basis st sr left lr f run fresh moved sees cut (Good r) t =
-    (record { run = λ heap wi. run heap wi r Done t.0.run; fresh = fresh r t.0.fresh }, moved r t.0.fresh t.1)
-lift_told deep over first part rest body inner env v u x base basis st sr left lr f run fresh moved sees cut (Fault r k n) t =
-    (record { run = λ heap wi. run heap wi r (Stop k n) t.0.run; fresh = fresh r t.0.fresh }, sees t.1)
-lift_told deep over first part rest body inner env v u x base basis st sr left lr f run fresh moved sees cut (Other r why) t = (cut r x.claims.over t.0, sees t.1)
+lift_told deep over first part rest body inner env v u x base basis st sr left lr f run fresh moved still sees cut (Good r) t =
+    (record { run = λ heap wi. run heap wi r Done t.0.run; fresh = fresh r t.0.fresh }, moved r t.0.fresh t.1, still t.2)
+lift_told deep over first part rest body inner env v u x base basis st sr left lr f run fresh moved still sees cut (Fault r k n) t =
+    (record { run = λ heap wi. run heap wi r (Stop k n) t.0.run; fresh = fresh r t.0.fresh }, sees t.1, still t.2)
+lift_told deep over first part rest body inner env v u x base basis st sr left lr f run fresh moved still sees cut (Other r why) t = (cut r x.claims.over t.0, sees t.1)
 
 pub same_ended : (deep : Tracing Handle) (first : Cuts Handle) (body : List Stmt) (st : Standing) (left : List ℕ) (env : Env Handle) (v u : ValueView) (base : Heap) (e : Ended (Rec Handle)) → Told deep first body st left env v u base (then_ended (λ r. r) e) → Told deep first body st left env v u base e
 same_ended deep first body st left env v u base (Good r) t = t
@@ -107,10 +108,10 @@ module _ (w : Setting Handle) (funcs : List Func) where
 
   pub tells_end : (room : ℕ) (first : Cuts Handle) (env : Env Handle) (v : ValueView) → Tells w (traced w funcs room) first [] env v v (Good E)
   tells_end room first env v base st end m r =
-      (record { run = λ heap wi. run_end room env heap; fresh = λ k i. absurd (none_some i.1) }, moved_none w st end.unwritten env v base r (ap (λ (z : Standing). z.unwritten) (sym (some_is m))))
+      (record { run = λ heap wi. run_end room env heap; fresh = λ k i. absurd (none_some i.1) }, moved_none w st end.unwritten env v base r (ap (λ (z : Standing). z.unwritten) (sym (some_is m))), λ n x h d s. s)
 
   pub tells_deep : (first : Cuts Handle) (s : Stmt) (rest : List Stmt) (env : Env Handle) (v : ValueView) → Tells w (traced w funcs 0) first (s ∷ rest) env v v (Fault E TooDeep (line_of (out-Stmt s)))
-  tells_deep first s rest env v base st end m r = (record { run = λ heap wi. run_deep s rest env heap; fresh = λ k i. absurd (none_some i.1) }, r.sees)
+  tells_deep first s rest env v base st end m r = (record { run = λ heap wi. run_deep s rest env heap; fresh = λ k i. absurd (none_some i.1) }, r.sees, λ n x h d s. s)
 
 module _ (w : Setting Handle) (room : ℕ) (deep : Tracing Handle) (first : Cuts Handle) (rest : List Stmt) (env : Env Handle) (v : ValueView) where
   -- let
@@ -127,6 +128,7 @@ module _ (w : Setting Handle) (room : ℕ) (deep : Tracing Handle) (first : Cuts
       (λ heap wi c last h. h heap wi)
       (λ c f. f)
       (λ c f mv. moved_bind st end.unwritten env v u base (writes c) x y g.0 (subst (λ z. Moved z end.unwritten (bind x y env) v u base (writes c)) (sym g.1) mv))
+      (λ k. still_bind st end.unwritten env v u x y g.0 (subst (λ z. Unchanged z end.unwritten (bind x y env) v u) (sym g.1) k))
       (λ s. s)
       (λ c n. at_let same_handle room deep first rest env base x y c n)
       e (t base mid end more here))
@@ -145,6 +147,7 @@ module _ (w : Setting Handle) (room : ℕ) (deep : Tracing Handle) (first : Cuts
         (λ heap wi k last h. h heap wi)
         (λ k f. f)
         (λ k f mv. moved_make w st end.unwritten env v u base d m c l r g.0 x (writes k) (subst (λ z. Moved z end.unwritten (bind d (ref m) env) u x base (writes k)) (sym g.1) mv))
+        (λ k. still_make w st end.unwritten env v u base d m c l r g.0 x (subst (λ z. Unchanged z end.unwritten (bind d (ref m) env) u x) (sym g.1) k))
         (λ s. s)
         (λ k n. at_new same_handle room deep first rest env base d m k n)
         e (t base mid end more (made_ready base st mid end r g))
@@ -157,9 +160,12 @@ module _ (w : Setting Handle) (room : ℕ) (deep : Tracing Handle) (first : Cuts
     abbrev one_write : Heap
     one_write = (m, plain_value p) ∷ []
 
+    not_left : (st : Standing) (d : ℕ) → has d (without (d ∷ []) st.unwritten) ≡ false
+    not_left st d = not_true (has d (without (d ∷ []) st.unwritten)) (λ j. not_both (or_left (d == d) false (nat_same d)) (has_without d (d ∷ []) st.unwritten j).1)
+
     pub gone : (st mid end : Standing) (d : ℕ) → has d st.unwritten ≡ true → settled (without (d ∷ []) st.unwritten) st ≡ mid → series rest mid ≡ Some end → has d end.unwritten ≡ false
     gone st mid end d u q more =
-        narrow rest st mid end (without (d ∷ []) st.unwritten) q more d u (not_true (has d (without (d ∷ []) st.unwritten)) (λ j. not_both (or_left (d == d) false (nat_same d)) (has_without d (d ∷ []) st.unwritten j).1))
+        narrow rest st mid end (without (d ∷ []) st.unwritten) q more d u (not_left st d)
 
     pub may_write : NeedsAct w (Put m (plain_value p)) rest env v → Has v m
     may_write n =
@@ -190,6 +196,7 @@ module _ (w : Setting Handle) (room : ℕ) (deep : Tracing Handle) (first : Cuts
         (λ heap wi k last h. (refl, refl, h ((m, plain_value p) ∷ heap) (within_front one_write base heap wi)))
         (λ k f. fresh_then base one_write (writes k) fresh f)
         (λ k f b. moved_then st left end.unwritten env v wrote_view x base one_write (writes k) (without_within (g.0 ∷ []) st.unwritten) (narrow rest st mid end left g.2 more) mv (wrote_kept v m ws tv mine) (subst (λ z. Moved z end.unwritten env wrote_view x (one_write ++ base) (writes k)) (sym g.2) b) kx)
+        (λ k. still_then st left end.unwritten env v wrote_view x (without_within (g.0 ∷ []) st.unwritten) (narrow rest st mid end left g.2 more) (wrote_kept v m ws tv mine) (still_put st left env v m ws tv mine (g.0, g.1, not_left st g.0, g.3)) (subst (λ z. Unchanged z end.unwritten env wrote_view x) (sym g.2) k))
         (λ s. within_base one_write base x fresh s)
         (λ k n. at_write same_handle room deep first rest env base m (plain_value p) k n)
         e (t (one_write ++ base) mid end more (put_ready base st mid end more r mine g))
@@ -199,15 +206,16 @@ module _ (w : Setting Handle) (room : ℕ) (deep : Tracing Handle) (first : Cuts
     pub seq_ready : (ws : Heap) → Moved st left env v u base ws → Ready w mid end.unwritten env u (ws ++ base)
     seq_ready ws mv = subst (λ z. Ready w z end.unwritten env u (ws ++ base)) q (ready_next w st left end.unwritten env v u base ws r within (narrow rest st mid end left q more) mv ku)
 
-    seq_told : (x : ValueView) (kx : Kept u x) (t : Rec Handle) → Moved st left env v u base (writes t) → Fresh (writes t) base
+    seq_told : (x : ValueView) (kx : Kept u x) (t : Rec Handle) → Moved st left env v u base (writes t) → Unchanged st left env v u → Fresh (writes t) base
         → ((heap : Heap) → Wider base heap → (k : Rec Handle) (last : End) → deep rest env (writes t ++ heap) k last → acts room deep a rest env heap (S t k) last)
         → ((k : Rec Handle) (n : ℕ) → CutOn same_handle first rest env (writes t ++ base) k n → CutOn same_handle (cuts room deep first a) rest env base (S t k) n)
         → (e : Ended (Rec Handle)) → Tells w deep first rest env u x e → Told (acts room deep a) (cuts room deep first a) rest st end.unwritten env v x base (then_ended (S t) e)
-    seq_told x kx t mv fr run cut e told =
+    seq_told x kx t mv still fr run cut e told =
         lift_told deep (acts room deep a) first (cuts room deep first a) rest rest env env v u x base (writes t ++ base) st mid end.unwritten end.unwritten (S t)
         (λ heap wi k last g. run heap wi k last (g (writes t ++ heap) (within_front (writes t) base heap wi)))
         (λ k f. fresh_then base (writes t) (writes k) fr f)
         (λ k f b. moved_then st left end.unwritten env v u x base (writes t) (writes k) within (narrow rest st mid end left q more) mv ku (subst (λ z. Moved z end.unwritten env u x (writes t ++ base) (writes k)) (sym q) b) kx)
+        (λ k. still_then st left end.unwritten env v u x within (narrow rest st mid end left q more) ku still (subst (λ z. Unchanged z end.unwritten env u x) (sym q) k))
         (λ s. within_base (writes t) base x fr s)
         cut
         e (told (writes t ++ base) mid end more (seq_ready (writes t) mv))
@@ -216,6 +224,13 @@ module _ (w : Setting Handle) (room : ℕ) (deep : Tracing Handle) (first : Cuts
   pub inner_moved : (st mid : Standing) (base : Heap) (body : List Stmt) (inner : Env Handle) (g : Enters w st mid env v base body inner) (u : ValueView) (ws : Heap) → Moved g.names g.end.unwritten inner v u base ws → Moved st g.left env v u base ws
   inner_moved st mid base body inner g u ws mv =
       record { closed = mv.closed; sees = mv.sees; done = λ m t. mv.done m (g.into m t); spares = λ m h i. g.out m (mv.spares m h i); owned = mv.owned }
+
+  inner_still : (st mid : Standing) (base : Heap) (body : List Stmt) (inner : Env Handle) (g : Enters w st mid env v base body inner) (u : ValueView) → Unchanged g.names g.end.unwritten inner v u → Unchanged st g.left env v u
+  inner_still st mid base body inner g u k m x h d s = k m x h (λ t. d (g.out m t)) s
+
+  -- where a part before the rest stopped, no more is written than the rest leaves
+  inner_stop : (st mid end : Standing) (base : Heap) (body : List Stmt) (inner : Env Handle) → series rest mid ≡ Some end → (g : Enters w st mid env v base body inner) (u : ValueView) → Unchanged g.names g.end.unwritten inner v u → Unchanged st end.unwritten env v u
+  inner_stop st mid end base body inner more g u k m x h d s = k m x h (λ t. d (target_narrow st g.left end.unwritten env m (narrow rest st mid end g.left g.settles more) (g.out m t))) s
 
   module _ (body : List Stmt) (inner : Env Handle) where
     pub needs_body : NeedsAct w (Body body inner) rest env v → Needs w body inner v
@@ -230,13 +245,13 @@ module _ (w : Setting Handle) (room : ℕ) (deep : Tracing Handle) (first : Cuts
     pub tells_body_on : (u x : ValueView) (t : Rec Handle) (e : Ended (Rec Handle)) → Kept v u → Kept u x → Tells w deep first body inner v u (Good t) → Tells w deep first rest env u x e → TellsAct w room deep first (Body body inner) rest env v x (then_ended (S t) e)
     tells_body_on u x t e ku kx told more_told base st mid end more r g =
         let b = told base g.names g.end g.meets g.ready in
-        seq_told (Body body inner) u ku base st mid end more r g.left g.within g.settles x kx t (inner_moved st mid base body inner g u (writes t) b.1) b.0.fresh
+        seq_told (Body body inner) u ku base st mid end more r g.left g.within g.settles x kx t (inner_moved st mid base body inner g u (writes t) b.1) (inner_still st mid base body inner g u b.2) b.0.fresh
         (λ heap wi k last h. (Done, b.0.run heap wi, h)) (λ k n. behind_body same_handle room deep first rest env base body inner t k n b.0.run) e more_told
 
     pub tells_body_stop : (u : ValueView) (t : Rec Handle) (k : FaultKind) (n : ℕ) → Tells w deep first body inner v u (Fault t k n) → TellsAct w room deep first (Body body inner) rest env v u (Fault (S t E) k n)
     tells_body_stop u t k n told base st mid end more r g =
         let b = told base g.names g.end g.meets g.ready in
-        (record { run = λ heap wi. (Stop k n, b.0.run heap wi, (refl, refl)); fresh = b.0.fresh }, b.1)
+        (record { run = λ heap wi. (Stop k n, b.0.run heap wi, (refl, refl)); fresh = b.0.fresh }, b.1, inner_stop st mid end base body inner more g u b.2)
 
     pub tells_body_cut : (u : ValueView) (t : Rec Handle) (why : Option Cause) → Tells w deep first body inner v u (Other t why) → TellsAct w room deep first (Body body inner) rest env v u (Other (S t E) why)
     tells_body_cut u t why told base st mid end more r g =
@@ -257,13 +272,13 @@ module _ (w : Setting Handle) (room : ℕ) (deep : Tracing Handle) (first : Cuts
     pub tells_block_on : (u x : ValueView) (t : Rec Handle) (e : Ended (Rec Handle)) → Kept v u → Kept u x → Tells w deep first body inner v u (Good t) → Tells w deep first rest env u x e → TellsAct w room deep first (Block number reads body inner) rest env v x (then_ended (S (R room number env reads t)) e)
     tells_block_on u x t e ku kx told more_told base st mid end more r g =
         let b = told base g.names g.end g.meets g.ready in
-        seq_told (Block number reads body inner) u ku base st mid end more r g.left g.within g.settles x kx (R room number env reads t) (inner_moved st mid base body inner g u (writes t) b.1) b.0.fresh
+        seq_told (Block number reads body inner) u ku base st mid end more r g.left g.within g.settles x kx (R room number env reads t) (inner_moved st mid base body inner g u (writes t) b.1) (inner_still st mid base body inner g u b.2) b.0.fresh
         (λ heap wi k last h. (refl, refl, refl, refl, (Done, b.0.run heap wi, h))) (λ k n. behind_block same_handle room deep first rest env base number reads body inner t k n b.0.run) e more_told
 
     pub tells_block_stop : (u : ValueView) (t : Rec Handle) (k : FaultKind) (n : ℕ) → Tells w deep first body inner v u (Fault t k n) → TellsAct w room deep first (Block number reads body inner) rest env v u (Fault (S (R room number env reads t) E) k n)
     tells_block_stop u t k n told base st mid end more r g =
         let b = told base g.names g.end g.meets g.ready in
-        (record { run = λ heap wi. (refl, refl, refl, refl, (Stop k n, b.0.run heap wi, (refl, refl))); fresh = b.0.fresh }, b.1)
+        (record { run = λ heap wi. (refl, refl, refl, refl, (Stop k n, b.0.run heap wi, (refl, refl))); fresh = b.0.fresh }, b.1, inner_stop st mid end base body inner more g u b.2)
 
     -- whatever the end of the body, the read was begun
     pub tells_block_first : Shortens deep first → (u : ValueView) (e : Ended (Rec Handle)) → Whole u e → Tells w deep first body inner v u e → (why : Option Cause) → TellsAct w room deep first (Block number reads body inner) rest env v u (Other (S (R room number env reads (what e)) E) why)
@@ -293,7 +308,7 @@ module _ (w : Setting Handle) (room : ℕ) (deep : Tracing Handle) (first : Cuts
     tells_par_on j x t e kj kx both told base st mid end more r p =
         let b = both base st mid end more r p in
         subst (λ c. Told (acts room deep (Sides ls rs)) (cuts room deep first (Sides ls rs)) rest st end.unwritten env v x base (then_ended (S c) e)) b.2
-        (seq_told (Sides ls rs) j kj base st mid end more r (in_both p.one p.two) (both_within st mid p) p.settles x kx (P b.0 b.1) b.4 b.3.fresh
+        (seq_told (Sides ls rs) j kj base st mid end more r (in_both p.one p.two) (both_within st mid p) p.settles x kx (P b.0 b.1) b.4 b.5 b.3.fresh
         (λ heap wi k last h. let q = b.3.run heap wi in (Done, Done, q.0, q.1, subst (λ z. deep rest env z k last) (append_assoc (writes b.1) (writes b.0) heap) h))
         (λ k n. behind_sides same_handle room deep first rest env base ls rs b.0 b.1 k n (λ heap wi. (b.3.run heap wi).0) (λ heap wi. (b.3.run heap wi).1))
         e told)
@@ -307,6 +322,7 @@ module _ (w : Setting Handle) (room : ℕ) (deep : Tracing Handle) (first : Cuts
             fresh = b.3.3.fresh;
           },
           b.3.4,
+          λ m x h d s. b.3.5 m x h (λ z. d (target_narrow st (in_both p.one p.two) end.unwritten env m (narrow rest st mid end (in_both p.one p.two) p.settles more) z)) s,
         )
 
     pub tells_par_cut : (j : ValueView) (t : Rec Handle) (why : Option Cause) → BothTold j (Other t why) → TellsAct w room deep first (Sides ls rs) rest env v j (Other (S t E) why)
@@ -378,12 +394,15 @@ module _ (w : Setting Handle) (room : ℕ) (deep : Tracing Handle) (first : Cuts
               sees_left base (told_within deep first ls st a env L l base one ta),
             )
 
+        both_still : (base : Heap) (st mid end : Standing) → series rest mid ≡ Some end → Ready w st end.unwritten env v base → (p : Parts st mid ls rs) → Unchanged st p.one env L l → Unchanged st p.two env K k → Unchanged st (in_both p.one p.two) env v j
+        both_still base st mid end more r p a b = still_sides w st mid end.unwritten env v base ls rs p tv r (part_narrow st mid end more p) l k j kl kk is un a b
+
         both_told : Shortens deep first → (base : Heap) (st mid end : Standing) → series rest mid ≡ Some end → (r : Ready w st end.unwritten env v base) → (p : Parts st mid ls rs) → (one two : Ended (Rec Handle)) → Whole l one → Whole k two → Told deep first ls st p.one env L l base one → Told deep first rs st p.two env K k base two → BothHere st (in_both p.one p.two) j base (both_ended P one two)
         both_told short base st mid end more r p (Good a) (Good b) zl zk ta tb =
-            (a, b, refl, paired_by base a b Done Done ta.0 tb.0, moved_sides w st mid end.unwritten env v base ls rs p tv r (part_narrow st mid end more p) l k j kl kk is un (writes a) (writes b) ta.1 tb.1)
-        both_told short base st mid end more r p (Good a) (Fault b c d) zl zk ta tb = (a, b, refl, (Done, Stop c d, refl, paired_by base a b Done (Stop c d) ta.0 tb.0, sees_right base tb.1))
-        both_told short base st mid end more r p (Fault a c d) (Good b) zl zk ta tb = (a, b, refl, (Stop c d, Done, refl, paired_by base a b (Stop c d) Done ta.0 tb.0, sees_left base ta.1))
-        both_told short base st mid end more r p (Fault a c d) (Fault b e f) zl zk ta tb = (a, b, refl, (Stop c d, Stop e f, refl, paired_by base a b (Stop c d) (Stop e f) ta.0 tb.0, sees_left base ta.1))
+            (a, b, refl, paired_by base a b Done Done ta.0 tb.0, moved_sides w st mid end.unwritten env v base ls rs p tv r (part_narrow st mid end more p) l k j kl kk is un (writes a) (writes b) ta.1 tb.1, both_still base st mid end more r p ta.2 tb.2)
+        both_told short base st mid end more r p (Good a) (Fault b c d) zl zk ta tb = (a, b, refl, (Done, Stop c d, refl, paired_by base a b Done (Stop c d) ta.0 tb.0, sees_right base tb.1, both_still base st mid end more r p ta.2 tb.2))
+        both_told short base st mid end more r p (Fault a c d) (Good b) zl zk ta tb = (a, b, refl, (Stop c d, Done, refl, paired_by base a b (Stop c d) Done ta.0 tb.0, sees_left base ta.1, both_still base st mid end more r p ta.2 tb.2))
+        both_told short base st mid end more r p (Fault a c d) (Fault b e f) zl zk ta tb = (a, b, refl, (Stop c d, Stop e f, refl, paired_by base a b (Stop c d) (Stop e f) ta.0 tb.0, sees_left base ta.1, both_still base st mid end more r p ta.2 tb.2))
         both_told short base st mid end more r p (Good a) (Other b why) zl zk ta tb = both_cut short base st p.one p.two (Good a) (Other b why) zl zk ta tb
         both_told short base st mid end more r p (Fault a c d) (Other b why) zl zk ta tb = both_cut short base st p.one p.two (Fault a c d) (Other b why) zl zk ta tb
         both_told short base st mid end more r p (Other a why) two zl zk ta tb = both_cut short base st p.one p.two (Other a why) two zl zk ta tb
@@ -439,17 +458,20 @@ module _ (w : Setting Handle) (room : ℕ) (deep : Tracing Handle) (first : Cuts
       needs_second (Other a why) o n t = absurd cc
 
       module _ (j : ValueView) (kj : Kept u j) where
-        after_first : (base : Heap) (st mid end : Standing) → series rest mid ≡ Some end → (r : Ready w st end.unwritten env v base) → (p : Parts st mid ls rs) → (a : Rec Handle) → Traces deep ls env base a Done → Moved st p.one env v u base (writes a) → (two : Ended (Rec Handle)) → Told deep first rs st p.two env u j (writes a ++ base) two → BothHere st (in_both p.one p.two) j base (both_ended P (Good a) two)
-        after_first base st mid end more r p a ta mv (Good b) tb =
-            (a, b, refl, paired_second base a b Done Done ta tb.0, moved_second w st mid end.unwritten env v base ls rs p tv r (narrow rest st mid end (in_both p.one p.two) p.settles more) u ku (writes a) mv j (writes b) kj tb.1)
-        after_first base st mid end more r p a ta mv (Fault b c d) tb = (a, b, refl, (Done, Stop c d, refl, paired_second base a b Done (Stop c d) ta tb.0, within_base (writes a) base j ta.fresh tb.1))
-        after_first base st mid end more r p a ta mv (Other b why) tb =
+        second_still : (base : Heap) (st mid end : Standing) → series rest mid ≡ Some end → Ready w st end.unwritten env v base → (p : Parts st mid ls rs) → Unchanged st p.one env v u → Unchanged st p.two env u j → Unchanged st (in_both p.one p.two) env v j
+        second_still base st mid end more r p a b = still_second w st mid end.unwritten env v base ls rs p tv r (narrow rest st mid end (in_both p.one p.two) p.settles more) u j ku a b
+
+        after_first : (base : Heap) (st mid end : Standing) → series rest mid ≡ Some end → (r : Ready w st end.unwritten env v base) → (p : Parts st mid ls rs) → (a : Rec Handle) → Traces deep ls env base a Done → Moved st p.one env v u base (writes a) → Unchanged st p.one env v u → (two : Ended (Rec Handle)) → Told deep first rs st p.two env u j (writes a ++ base) two → BothHere st (in_both p.one p.two) j base (both_ended P (Good a) two)
+        after_first base st mid end more r p a ta mv ua (Good b) tb =
+            (a, b, refl, paired_second base a b Done Done ta tb.0, moved_second w st mid end.unwritten env v base ls rs p tv r (narrow rest st mid end (in_both p.one p.two) p.settles more) u ku (writes a) mv j (writes b) kj tb.1, second_still base st mid end more r p ua tb.2)
+        after_first base st mid end more r p a ta mv ua (Fault b c d) tb = (a, b, refl, (Done, Stop c d, refl, paired_second base a b Done (Stop c d) ta tb.0, within_base (writes a) base j ta.fresh tb.1, second_still base st mid end more r p ua tb.2))
+        after_first base st mid end more r p a ta mv ua (Other b why) tb =
             (record { run = λ heap wi. inr (inl (Done, ta.run heap wi, tb.0.run (writes a ++ heap) (within_front (writes a) base heap wi), refl)) }, within_base (writes a) base j ta.fresh tb.1)
 
-        after_stop : (base : Heap) (st : Standing) (left right : List ℕ) (c : FaultKind) (d : ℕ) (a : Rec Handle) → Traces deep ls env base a (Stop c d) → (two : Ended (Rec Handle)) → Told deep first rs st right env u j base two → BothHere st left j base (both_ended P (Fault a c d) two)
-        after_stop base st left right c d a ta (Good b) tb = (a, b, refl, (Stop c d, Done, refl, paired_by base a b (Stop c d) Done ta tb.0, within_base (writes b) base j tb.0.fresh tb.1.sees))
-        after_stop base st left right c d a ta (Fault b e f) tb = (a, b, refl, (Stop c d, Stop e f, refl, paired_by base a b (Stop c d) (Stop e f) ta tb.0, tb.1))
-        after_stop base st left right c d a ta (Other b why) tb =
+        after_stop : (base : Heap) (st : Standing) (left right : List ℕ) (c : FaultKind) (d : ℕ) (a : Rec Handle) → Traces deep ls env base a (Stop c d) → (Unchanged st right env u j → Unchanged st left env v j) → (two : Ended (Rec Handle)) → Told deep first rs st right env u j base two → BothHere st left j base (both_ended P (Fault a c d) two)
+        after_stop base st left right c d a ta still (Good b) tb = (a, b, refl, (Stop c d, Done, refl, paired_by base a b (Stop c d) Done ta tb.0, within_base (writes b) base j tb.0.fresh tb.1.sees, still tb.2))
+        after_stop base st left right c d a ta still (Fault b e f) tb = (a, b, refl, (Stop c d, Stop e f, refl, paired_by base a b (Stop c d) (Stop e f) ta tb.0, tb.1, still tb.2))
+        after_stop base st left right c d a ta still (Other b why) tb =
             (record { run = λ heap wi. inr (inl (Stop c d, ta.run heap wi, tb.0.run (writes a ++ heap) (within_fresh (writes a) base heap ta.fresh wi), refl)) }, tb.1)
 
         pub tells_second : (one two : Ended (Rec Handle)) → is_other one ≡ false → Tells w deep first ls env v u one → Tells w deep first rs env u j two → BothTold j (both_ended P one two)
@@ -457,12 +479,12 @@ module _ (w : Setting Handle) (room : ℕ) (deep : Tracing Handle) (first : Cuts
             let e = right_end st mid p in
             let told = first_told (Good a) tl base st mid end more r p in
             let ready = second_ready base st mid end more r p (writes a) told.1 in
-            after_first base st mid end more r p a told.0 told.1 two (subst (λ z. Told deep first rs st z env u j (writes a ++ base) two) e.2 (tr (writes a ++ base) st e.0 e.1 (subst (λ z. Ready w st z env u (writes a ++ base)) (sym e.2) ready)))
+            after_first base st mid end more r p a told.0 told.1 told.2 two (subst (λ z. Told deep first rs st z env u j (writes a ++ base) two) e.2 (tr (writes a ++ base) st e.0 e.1 (subst (λ z. Ready w st z env u (writes a ++ base)) (sym e.2) ready)))
         tells_second (Fault a c d) two o tl tr base st mid end more r p =
             let e = right_end st mid p in
             let told = first_told (Fault a c d) tl base st mid end more r p in
             let ready = stopped_ready base st mid end more r p told.1 in
-            after_stop base st (in_both p.one p.two) p.two c d a told.0 two (subst (λ z. Told deep first rs st z env u j base two) e.2 (tr base st e.0 e.1 (subst (λ z. Ready w st z env u base) (sym e.2) ready)))
+            after_stop base st (in_both p.one p.two) p.two c d a told.0 (second_still base st mid end more r p told.2) two (subst (λ z. Told deep first rs st z env u j base two) e.2 (tr base st e.0 e.1 (subst (λ z. Ready w st z env u base) (sym e.2) ready)))
         tells_second (Other a why) two o tl tr base st mid end more r p = absurd cc
 
     -- where neither side has begun

@@ -37,7 +37,7 @@ use Rattle.psac_laws.proofs.Rules.{has_both, leaves}
 use Rattle.psac_trace.specs.Rights.{Tidy, Shares, Target, Ready, Kept as Stays}
 use Rattle.psac_trace.specs.Divided.{neither, writes_slot, sets_shared}
 use Rattle.psac_trace.specs.Fit.{Rooted, both_have}
-use Rattle.psac_trace.specs.Raising.{Calm, Raisable, Aged, Warns, Raises}
+use Rattle.psac_trace.specs.Raising.{Calm, Raisable, Aged, Warns, Only, Raises}
 use Rattle.psac_trace.specs.Running.{WarnsAct}
 use Rattle.psac_trace.proofs.Claims.{times_append}
 use Rattle.psac_trace.proofs.Sums.{keeps_all}
@@ -349,7 +349,7 @@ module _ (w : Setting Handle) (olds : List Handle) (p l k : Pass) (ls rs rest : 
   -- and joined, after each side has run
   module _ (l' k' j : Pass) (kl : Stays l.values.knows l'.values.knows) (kk : Stays k.values.knows k'.values.knows)
       (jv : j.values.knows ≡ values.joined l'.values.knows k'.values.knows) (un : United l'.values.knows k'.values.knows j.values.knows) (jm : j.marks.knows ≡ marks.joined l'.marks.knows k'.marks.knows)
-      (a b : List (Handle × Plain)) (ra : Raises olds l l' a) (rb : Raises olds k k' b) where
+      (a b : List (Handle × Plain)) where
     sl : Stays (values.left_of S T p.values.knows) l'.values.knows
     sl = subst (λ z. Stays z l'.values.knows) lv kl
 
@@ -368,8 +368,25 @@ module _ (w : Setting Handle) (olds : List Handle) (p l k : Pass) (ls rs rest : 
     known_right : (m : Handle) (us : List ℕ) → Knows p.values.knows m us → Has k'.values.knows m → Knows k.values.knows m us
     known_right m us kn h = let s = at_right m us kn h in subst (λ z. Knows z m us) (sym kv) (knows_right S T p.values.knows m us s.0 s.1 kn)
 
-    pub raises_joined : Raises olds p j (a ++ b)
-    raises_joined =
+    pub only_joined : ((m : Handle) (x : Plain) → Member (m, x) a → Has l'.values.knows m) → ((m : Handle) (x : Plain) → Member (m, x) b → Has k'.values.knows m) → Only olds l l' a → Only olds k k' b → Only olds p j (a ++ b)
+    only_joined ha hb oa ob ns h y less =
+        let c = ap (λ (z : MarksView). times y z.marked) jm in
+        let d = times_append y l'.marks.knows.marked k'.marks.knows.marked in
+        let e = ap (λ (z : MarksView). times y z.marked) lm ∙ ap (times y) (left_marked p.marks.knows nodes) in
+        let f : times y k.marks.knows.marked ≡ 0 = ap (λ (z : MarksView). times y z.marked) km ∙ ap (times y) (right_marked p.marks.knows nodes) in
+        let one = oa ns (λ m x o i n.
+        lead_up_in p.readers.knows l.readers.knows p.marks.knows l.marks.knows m.slot (some_left m.slot) path_left ns
+        (h m x o (member_left (m, x) a b i) (λ kn. n (known_left m (words_of x) kn (ha m x i))))) y in
+        let two = ob ns (λ m x o i n.
+        lead_up_in p.readers.knows k.readers.knows p.marks.knows k.marks.knows m.slot (some_right m.slot) path_right ns
+        (h m x o (member_right (m, x) a b i) (λ kn. n (known_right m (words_of x) kn (hb m x i))))) y in
+        elim (zero_or (times y k'.marks.knows.marked)) [
+          | inl z ↦ one (omega (arith, c, d, e, z, less))
+          | inr z ↦ two (omega (arith, f, z))
+        ]
+
+    pub raises_joined : Raises olds l l' a → Raises olds k k' b → Raises olds p j (a ++ b)
+    raises_joined ra rb =
         record {
           warned = λ m x us o i kn d.
               elim (member_cases (m, x) a b i) [
@@ -382,21 +399,7 @@ module _ (w : Setting Handle) (olds : List Handle) (p l k : Pass) (ls rs rest : 
                     let all = subst (λ z. FewerIn z p.readers.knows m.slot) (sym kr) (all_right D T p.readers.knows m.slot (not_shared m o s.0) s.1) in
                     busy_on p.readers.knows k.readers.knows k'.marks.knows j.marks.knows m.slot all (λ n z. busy_joined l'.marks.knows k'.marks.knows j.marks.knows jm n (inr z)) (rb.warned m x us o y (known_right m us kn (rb.owned m x y)) d))
               ];
-          only = λ ns h y less.
-              let c = ap (λ (z : MarksView). times y z.marked) jm in
-              let d = times_append y l'.marks.knows.marked k'.marks.knows.marked in
-              let e = ap (λ (z : MarksView). times y z.marked) lm ∙ ap (times y) (left_marked p.marks.knows nodes) in
-              let f : times y k.marks.knows.marked ≡ 0 = ap (λ (z : MarksView). times y z.marked) km ∙ ap (times y) (right_marked p.marks.knows nodes) in
-              let one = ra.only ns (λ m x o i n.
-              lead_up_in p.readers.knows l.readers.knows p.marks.knows l.marks.knows m.slot (some_left m.slot) path_left ns
-              (h m x o (member_left (m, x) a b i) (λ kn. n (known_left m (words_of x) kn (ra.owned m x i))))) y in
-              let two = rb.only ns (λ m x o i n.
-              lead_up_in p.readers.knows k.readers.knows p.marks.knows k.marks.knows m.slot (some_right m.slot) path_right ns
-              (h m x o (member_right (m, x) a b i) (λ kn. n (known_right m (words_of x) kn (rb.owned m x i))))) y in
-              elim (zero_or (times y k'.marks.knows.marked)) [
-                | inl z ↦ one (omega (arith, c, d, e, z, less))
-                | inr z ↦ two (omega (arith, f, z))
-              ];
+          only = only_joined ra.owned rb.owned ra.only rb.only;
           stays = λ m us kn n.
               elim (knows_either S T p.values.knows m us kn) [
                 | inl y ↦ un.knows m us (inl (ra.stays m us (subst (λ z. Knows z m us) (sym lv) y) (λ x i. n x (member_left (m, x) a b i))))

@@ -12,9 +12,10 @@ use Rattle.psac_values.specs.Knowing.{Has as MayWrite}
 use Rattle.psac_readers.specs.declared.view.Stage.TheVariants.{In}
 use Rattle.psac_readers.specs.declared.view.LinkView.{LinkView}
 use Rattle.psac_readers.specs.declared.view.ReadersView.{ReadersView}
-use Rattle.psac_readers.specs.Chained.{mods_of}
+use Rattle.psac_readers.specs.Chained.{named, mods_of}
 use Rattle.psac_marks.specs.declared.view.OwnView.{OwnView}
 use Rattle.psac_marks.specs.declared.view.MarksView.{MarksView}
+use Rattle.psac_marks.specs.Steps.{Lacks as LacksNode}
 use Rattle.psac_marks.specs.Passes.{IsBusy, slot_of}
 use Rattle.psac_fork.specs.declared.tables.Pass.{Pass}
 use Rattle.psac_fork.specs.declared.tables.Tables.{Tables}
@@ -57,7 +58,10 @@ pub record MoreValues (v u : ValueView) (made : List Handle) : Type 0 where
 abbrev pub as_own : Handle × Option Handle → OwnView
 as_own n = record { node = n.0; parent = slot_of n.1 }
 
--- these were made, each below its parent; nothing was dropped
+abbrev pub nodes_in : List OwnView → List Handle
+nodes_in = map (λ (o : OwnView). o.node)
+
+-- these were made, each below its parent: no two are the same, the pass lacked them before and has them now; nothing was dropped
 pub record MoreNodes (v u : MarksView) (made : List OwnView) : Type 0 where
   pub branch : u.claims.branch ≡ v.claims.branch
   pub own : (g : OwnView → ℕ) → sum_by g u.own ≡ sum_by g v.own + sum_by g made
@@ -65,6 +69,9 @@ pub record MoreNodes (v u : MarksView) (made : List OwnView) : Type 0 where
   pub shared : u.shared ≡ v.shared
   pub dropped : (x : ℕ) → times x u.dropped ≡ times x v.dropped
   pub has : (o : OwnView) → Member o v.own → Member o u.own
+  pub differ : Differ (nodes_in made)
+  pub lacked : (o : OwnView) → Member o made → LacksNode v o.node.slot
+  pub gained : (o : OwnView) → Member o made → Member o u.own
 
 -- marks
 
@@ -78,11 +85,12 @@ pub record MoreMarks (v u : MarksView) : Type 0 where
 abbrev pub as_link : Stands → LinkView
 as_link s = record { link = s.link.index; of = s.of.slot; node = Some (word_of s.node); stage = In }
 
--- these entered
+-- these entered, and each stands once: none is another one, or one that the pass had before
 pub record MoreLinks (v u : ReadersView) (entered : List Stands) : Type 0 where
   pub branch : u.claims.branch ≡ v.claims.branch
   pub mods : u.mods ≡ v.mods
   pub links : (g : LinkView → ℕ) → sum_by g u.links ≡ sum_by g v.links + sum_by (λ (s : Stands). g (as_link s)) entered
+  pub once : (l : ℕ) → 0 < sum_by (λ (s : Stands). named l (as_link s)) entered → sum_by (named l) u.links ≤ 1
   pub walk : (g : ℕ → ℕ) → sum_by g (mods_of u.walk) ≡ sum_by g (mods_of v.walk)
   pub shared : u.shared ≡ v.shared
 

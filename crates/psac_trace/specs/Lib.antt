@@ -7,3 +7,4 @@ pub mod Grown
 pub mod Fit
 pub mod Raising
 pub mod Looks
+pub mod Laws

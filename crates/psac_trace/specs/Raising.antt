@@ -1,5 +1,5 @@
 -- What a run needs of the readers of the destinations that it didn't make, and which of them it raises.
-use Rattle.std.specs.Prelude.{◌≡◌, ◌≢◌, ℕ, ◌+◌, ◌≤◌, ◌<◌, false, List, [], ◌∷◌, ◌++◌, Some}
+use Rattle.std.specs.Prelude.{◌≡◌, ◌≢◌, ◌⊎◌, ℕ, ◌+◌, ◌≤◌, ◌<◌, false, List, [], ◌∷◌, ◌++◌, Some}
 use Rattle.psac_ops.specs.declared.plain.Handle.{Handle}
 use Rattle.psac_ops.specs.declared.plain.Plain.{Plain}
 use Rattle.psac_ops.specs.Words.{words_of}
@@ -7,6 +7,7 @@ use Rattle.psac_syntax.specs.declared.program.Stmt.{Stmt}
 use Rattle.psac_slots.specs.Handles.{Member, word_of}
 use Rattle.psac_slots.specs.Claiming.{times}
 use Rattle.psac_values.specs.declared.view.ValueView.{ValueView}
+use Rattle.psac_values.specs.Steps.{Lacks}
 use Rattle.psac_values.specs.Knowing.{Has, Knows}
 use Rattle.psac_readers.specs.declared.view.Stage.TheVariants.{In}
 use Rattle.psac_readers.specs.declared.view.LinkView.{LinkView}
@@ -25,7 +26,7 @@ use Rattle.psac_record.specs.Kept.{Kept, E, A, W, S, P, R}
 use Rattle.psac_trace.specs.Rights.{Heap, Target, Ready}
 use Rattle.psac_trace.specs.Asking.{Looked}
 use Rattle.psac_trace.specs.Fit.{is_spare}
-use Rattle.psac_trace.specs.Told.{Ended, Good}
+use Rattle.psac_trace.specs.Told.{Ended, Good, Fault, Other}
 
 -- what a record wrote, in its order
 abbrev pub puts : Kept → List (Handle × Plain)
@@ -47,6 +48,14 @@ pub record Raisable (p : Pass) (m : Handle) : Type 0 where
   pub leads : LeadUp p.readers.knows p.marks.knows m.slot
   pub words : (ws : List ℕ) × Knows p.values.knows m ws
 
+-- from one view to another, where these were written
+pub record Rewrote (v u : ValueView) (ws : List (Handle × Plain)) : Type 0 where
+  -- what isn't written keeps its words
+  pub stays : (m : Handle) (us : List ℕ) → Knows v m us → ((x : Plain) → Member (m, x) ws → ⊥) → Knows u m us
+  pub owned : (m : Handle) (x : Plain) → Member (m, x) ws → Has u m
+  -- words that are known were known before, or they are written, or are of what the pass lacked
+  pub learned : (m : Handle) (us : List ℕ) → Knows u m us → Knows v m us ⊎ (((x : Plain) × Member (m, x) ws × (us ≡ words_of x)) ⊎ Lacks v m.slot)
+
 -- none of the old destinations is one that a claim may give
 abbrev pub Aged : List Handle → ValueView → Type 0
 Aged olds v = (m : Handle) → Member m olds → is_spare v.fixed v.claims.list m.slot ≡ false
@@ -61,12 +70,17 @@ pub record Warns (w : Setting Handle) (olds : List Handle) (body : List Stmt) (e
   pub ready : Ready w st end.unwritten env p.values.knows base
   pub may : (m : Handle) → Member m olds → Target st end.unwritten env m → Raisable p m
 
+-- what is marked anew where these were written stands wherever the live readers of all old destinations that got other words lead up
+abbrev pub Only : List Handle → Pass → Pass → List (Handle × Plain) → Type 0
+Only olds p q ws =
+    (ns : List ℕ) → ((m : Handle) (x : Plain) → Member m olds → Member (m, x) ws → (Knows p.values.knows m (words_of x) → ⊥) → LeadUpIn p.readers.knows p.marks.knows ns m.slot) → (y : ℕ) → times y p.marks.knows.marked < times y q.marks.knows.marked → Member y ns
+
 -- what a run raised that made these writes
 pub record Raises (olds : List Handle) (p q : Pass) (ws : List (Handle × Plain)) : Type 0 where
   -- the live readers of each old destination that got other words
   pub warned : (m : Handle) (x : Plain) (us : List ℕ) → Member m olds → Member (m, x) ws → Knows p.values.knows m us → us ≢ words_of x → AllBusy p.readers.knows q.marks.knows m.slot
-  -- and no more: what is marked anew stands wherever all these lead up
-  pub only : (ns : List ℕ) → ((m : Handle) (x : Plain) → Member m olds → Member (m, x) ws → (Knows p.values.knows m (words_of x) → ⊥) → LeadUpIn p.readers.knows p.marks.knows ns m.slot) → (y : ℕ) → times y p.marks.knows.marked < times y q.marks.knows.marked → Member y ns
+  -- and no more
+  pub only : Only olds p q ws
   -- what isn't written keeps its words
   pub stays : (m : Handle) (us : List ℕ) → Knows p.values.knows m us → ((x : Plain) → Member (m, x) ws → ⊥) → Knows q.values.knows m us
   pub owned : (m : Handle) (x : Plain) → Member (m, x) ws → Has q.values.knows m
@@ -75,10 +89,11 @@ pub record Raises (olds : List Handle) (p q : Pass) (ws : List (Handle × Plain)
 abbrev pub Calm : List Handle → Pass → Pass → Type 0
 Calm olds p q = olds ≡ [] → (y : ℕ) → times y q.marks.knows.marked ≡ times y p.marks.knows.marked
 
--- where a run stopped its record is thrown away, and of others' nodes no more is said
+-- where a run stopped its record is thrown away, and no more is said of the readers of what it wrote
 abbrev pub RaisesBy : List Handle → Pass → Pass → Ended Kept → Type 0
 RaisesBy olds p q (Good k) = Raises olds p q (puts k)
-RaisesBy olds p q e = Calm olds p q
+RaisesBy olds p q (Fault k i n) = Only olds p q (puts k)
+RaisesBy olds p q (Other k why) = Calm olds p q
 
 -- the old destinations of a side that runs after another one on its pass
 abbrev pub olds_after : List Handle → Ended Kept → List Handle

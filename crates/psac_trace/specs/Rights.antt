@@ -83,6 +83,10 @@ pub record Moved (st : Standing) (left : List ℕ) (env : Env Handle) (v w : Val
   -- and what was written the pass has
   pub owned : (m : Handle) → In ws m → Has w m
 
+-- what the pass had keeps its words, but for destinations of the statements
+abbrev pub Unchanged : Standing → List ℕ → Env Handle → ValueView → ValueView → Type 0
+Unchanged st left env v w = (m : Handle) (x : Value Handle) → Has v m → (Target st left env m → ⊥) → Sees v m x → Sees w m x
+
 -- what a call leaves of a pass, however it ends
 pub record Kept (v w : ValueView) : Type 0 where
   pub branch : w.claims.branch ≡ v.claims.branch

@@ -32,8 +32,8 @@ use Rattle.psac_trace.specs.Fit.{Fit, ParentKept}
 use Rattle.psac_trace.specs.Grown.{Made, made_below, count, as_own, Moves, Cause, IsFull}
 use Rattle.psac_trace.specs.Asking.{looks_for}
 use Rattle.psac_trace.specs.Looks.{Looks}
-use Rattle.psac_trace.specs.Rights.{Heap, held, In, Within, Wider, Named, Sees, Target, Tidy, Ready, Moved}
-use Rattle.psac_trace.specs.Raising.{Aged, Raisable, Warns, RaisesBy}
+use Rattle.psac_trace.specs.Rights.{Heap, held, In, Within, Wider, Named, Sees, Target, Tidy, Ready, Moved, Unchanged}
+use Rattle.psac_trace.specs.Raising.{puts, Aged, Raisable, Warns, RaisesBy, Rewrote}
 use Rattle.psac_slots.specs.Handles.{Member}
 use Rattle.psac_trace.specs.Told.{Ended, Good, Fault, Other, what, Told, Needs, Tells, AreChecked, then_ended, bared, Follows}
 
@@ -78,6 +78,7 @@ pub record Leaves (w : Setting Handle) (deep : Tracing Handle) (first : Cuts Han
   pub room : RoomAfter q e
   pub full : FullBy p q e
   pub raises : RaisesBy olds p q e
+  pub words : Rewrote p.values.knows q.values.knows (puts (what e))
   pub looks : Looks 0 p.values.knows q.values.knows (what e)
   pub tells : Tells w deep first body env p.values.knows q.values.knows (bared e)
 
@@ -159,6 +160,7 @@ pub record LeavesAct (w : Setting Handle) (level : ℕ) (deep : Tracing Handle) 
   pub room : RoomAfter q e
   pub full : FullBy p q e
   pub raises : RaisesBy olds p q e
+  pub words : Rewrote p.values.knows q.values.knows (puts (what e))
   -- its reads were looked at before
   pub looks : Looks (looks_for a) p.values.knows q.values.knows (what e)
   pub tells : TellsAct w level deep first a rest env p.values.knows q.values.knows (bared e)
@@ -226,9 +228,9 @@ pub record Paired (deep : Tracing Handle) (ls rs : List Stmt) (env : Env Handle)
 -- what both sides tell
 abbrev pub Both : ℕ → Tracing Handle → Cuts Handle → List Stmt → List Stmt → List Stmt → Env Handle → ValueView → Standing → List ℕ → ValueView → Heap → Ended (Rec Handle) → Type 0
 Both room deep first ls rs rest env v st left u base (Good t) =
-    (a : Rec Handle) × (b : Rec Handle) × (rec.P a b ≡ t) × Paired deep ls rs env base a b Done Done × Moved st left env v u base (writes b ++ writes a)
+    (a : Rec Handle) × (b : Rec Handle) × (rec.P a b ≡ t) × Paired deep ls rs env base a b Done Done × Moved st left env v u base (writes b ++ writes a) × Unchanged st left env v u
 Both room deep first ls rs rest env v st left u base (Fault t k n) =
-    (a : Rec Handle) × (b : Rec Handle) × (rec.P a b ≡ t) × ((e : End) × (f : End) × (first_stop e f ≡ Stop k n) × Paired deep ls rs env base a b e f × Within base (Sees u))
+    (a : Rec Handle) × (b : Rec Handle) × (rec.P a b ≡ t) × ((e : End) × (f : End) × (first_stop e f ≡ Stop k n) × Paired deep ls rs env base a b e f × Within base (Sees u) × Unchanged st left env v u)
 Both room deep first ls rs rest env v st left u base (Other t why) = CutOn same_handle (cuts room deep first (Sides ls rs)) rest env base (rec.S t rec.E) u.claims.over × Within base (Sees u)
 
 abbrev pub TellsBoth : Setting Handle → ℕ → Tracing Handle → Cuts Handle → List Stmt → List Stmt → List Stmt → Env Handle → ValueView → ValueView → Ended (Rec Handle) → Type 0
@@ -243,5 +245,6 @@ pub record LeavesBoth (w : Setting Handle) (level : ℕ) (deep : Tracing Handle)
   pub room : RoomAfter q e
   pub full : FullBy p q e
   pub raises : RaisesBy olds p q e
+  pub words : Rewrote p.values.knows q.values.knows (puts (what e))
   pub looks : Looks 0 p.values.knows q.values.knows (what e)
   pub tells : TellsBoth w level deep first ls rs rest env p.values.knows q.values.knows (bared e)

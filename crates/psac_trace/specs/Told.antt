@@ -24,7 +24,7 @@ use Rattle.psac_ops.specs.Named.{same_handle}
 use Rattle.psac_cut.specs.CutShort.{Cuts}
 use Rattle.psac_cut.specs.Based.{CutOn}
 use Rattle.psac_trace.specs.Grown.{Cause}
-use Rattle.psac_trace.specs.Rights.{Heap, held, In, Within, Wider, Sees, Ready, Moved}
+use Rattle.psac_trace.specs.Rights.{Heap, held, In, Within, Wider, Sees, Ready, Moved, Unchanged}
 
 -- on each heap that has the base, the record is one that a run may leave; nothing of the base is written
 pub record Traces (deep : Tracing Handle) (body : List Stmt) (env : Env Handle) (base : Heap) (r : Rec Handle) (end : End) : Type 0 where
@@ -40,8 +40,8 @@ pub data Ended (X : Type 0) : Type 0 where
 
 -- what a call tells in each case
 abbrev pub Told : Tracing Handle → Cuts Handle → List Stmt → Standing → List ℕ → Env Handle → ValueView → ValueView → Heap → Ended (Rec Handle) → Type 0
-Told deep first body st left env v w base (Good r) = Traces deep body env base r Done × Moved st left env v w base (writes r)
-Told deep first body st left env v w base (Fault r k n) = Traces deep body env base r (Stop k n) × Within base (Sees w)
+Told deep first body st left env v w base (Good r) = Traces deep body env base r Done × Moved st left env v w base (writes r) × Unchanged st left env v w
+Told deep first body st left env v w base (Fault r k n) = Traces deep body env base r (Stop k n) × Within base (Sees w) × Unchanged st left env v w
 Told deep first body st left env v w base (Other r why) = CutOn same_handle first body env base r w.claims.over × Within base (Sees w)
 
 -- where a pass is ready for statements that meet the series rule

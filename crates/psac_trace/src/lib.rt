@@ -5,6 +5,7 @@ pub mod ask;
 pub mod divide;
 pub mod ground;
 pub mod halt;
+pub mod laws;
 pub mod nodes;
 pub mod put;
 pub mod run;

@@ -5,7 +5,7 @@ use Rattle.psac_trace.proofs.nodes.entered.Goals as goal
 pub returns-in-Ok-clause-ok : goal.returns-in-Ok-clause-ok
 returns-in-Ok-clause-ok c =
     let k = c.in-Ok.ensures in
-    link_opens c.args.tables.now c.args.pass _ c.requires.of c.requires.tidy c.requires.fit c.requires.room (record { table = k.table; values = refl; marks = refl }) (record { link = c.in-Ok.link; of = c.args.from; node = c.args.node }) k.ok k.has k.room
+    link_opens c.args.tables.now c.args.pass _ c.requires.of c.requires.tidy c.requires.fit c.requires.room (record { table = k.table; values = refl; marks = refl }) (record { link = c.in-Ok.link; of = c.args.from; node = c.args.node }) k.ok k.new k.has k.room
 
 pub returns-in-Err-clause-err : goal.returns-in-Err-clause-err
 returns-in-Err-clause-err c = λ l.

@@ -5,7 +5,7 @@ use Rattle.psac_trace.proofs.nodes.stepped.Goals as goal
 pub returns-in-Ok-clause-ok : goal.returns-in-Ok-clause-ok
 returns-in-Ok-clause-ok c =
     let k = c.in-Ok.ensures in
-    node_opens c.args.tables.now c.args.pass _ c.requires.of c.requires.tidy c.requires.fit c.requires.room (record { table = k.table; values = refl; readers = refl }) c.in-Ok.node c.args.parent c.requires.parent k.ok k.room k.kept
+    node_opens c.args.tables.now c.args.pass _ c.requires.of c.requires.tidy c.requires.fit c.requires.room (record { table = k.table; values = refl; readers = refl }) c.in-Ok.node c.args.parent c.requires.parent k.ok k.new k.room k.kept
 
 pub returns-in-Err-clause-err : goal.returns-in-Err-clause-err
 returns-in-Err-clause-err c = λ h.

@@ -936,7 +936,7 @@ run_both-returns g n c =
     let twos = ended_of r.0 c.both-l.result.1.0 in
     let j = c.join-pass.ensures in
     let last = P node (did l.0 c.both-l.result.0.0) (did r.0 c.both-l.result.1.0) in
-    (last, leaves_joined w funcs room deep first none short holding olds t c.args.left.now c.args.right.now rest env par p c.requires node p1 one.0 one.1 mine theirs f.of f.left_values f.right_values f.left_readers f.right_readers f.left_marks f.right_marks c.both-l.result.0.1 c.both-l.result.1.1 ones twos l.1 r.1 c.join-pass.result j.of j.values j.united j.readers j.marks j.united_marks (ended_of last c.paired-2.result) (c.paired-2.ensures l.0 r.0))
+    (last, leaves_joined w funcs room deep first none short holding olds t c.args.left.now c.args.right.now rest env par p c.requires node p1 one.0 one.1 mine theirs f.of f.left_values f.right_values f.left_readers f.right_readers f.left_marks f.right_marks c.both-l.result.0.1 c.both-l.result.1.1 ones twos l.1 r.1 c.join-pass.result j.of j.values j.united j.readers j.once j.marks j.united_marks (ended_of last c.paired-2.result) (c.paired-2.ensures l.0 r.0))
 
 pub run_block-returns-in_default : goal.run_block-returns-in_default
 run_block-returns-in_default g n c =
