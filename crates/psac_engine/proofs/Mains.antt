@@ -1,17 +1,13 @@
 -- The call that runs main's body, by what it is passed.
 use Rattle.std.proofs.Common.{◌≡◌, ℕ, ◌+◌, List, [], length, None, refl, ap, sym, ◌∙◌, subst, inl, arith}
-use Rattle.std.specs.Prelude.{sum_by}
 use Rattle.psac_ops.specs.declared.plain.Handle.{Handle}
 use Rattle.psac_ops.specs.declared.plain.TextId.{TextId}
 use Rattle.psac_ops.specs.Named.{same_handle}
 use Rattle.psac_syntax.specs.declared.program.Stmt.{Stmt}
 use Rattle.psac_syntax.specs.declared.program.Func.{Func}
 use Rattle.psac_inputs.specs.Grid.{Grid}
-use Rattle.psac_slots.specs.declared.view.ClaimView.{ClaimView}
 use Rattle.psac_fork.specs.declared.tables.Pass.{Pass}
 use Rattle.psac_fork.specs.declared.tables.Tables.{Tables}
-use Rattle.psac_model.specs.declared.ends.CapKind.{CapKind}
-use Rattle.psac_model.specs.declared.ends.CapKind.TheVariants as cap
 use Rattle.psac_model.specs.Names.{Env}
 use Rattle.psac_model.specs.Expression.{Setting}
 use Rattle.psac_model.specs.Fresh.{levels}
@@ -23,10 +19,12 @@ use Rattle.psac_cut.specs.CutShort.{cut_short}
 use Rattle.psac_cut.specs.Based.{CutOn}
 use Rattle.psac_cut.proofs.Based.{cut_on_none}
 use Rattle.psac_record.specs.Kept.{Kept, E}
-use Rattle.psac_trace.specs.Grown.{MoreClaims, nothing, count, claims_in}
+use Rattle.psac_trace.specs.Grown.{nothing}
 use Rattle.psac_trace.specs.Told.{Ended, Other}
 use Rattle.psac_trace.specs.Running.{Begins, Leaves}
 use Rattle.psac_trace.proofs.Looking.{looks_none}
+use Rattle.psac_trace.proofs.Moving.{moves_none}
+use Rattle.psac_trace.proofs.Rewriting.{rewrote_none}
 use Rattle.psac_engine.specs.Tracing.{main_setting, main_places, MainBegins, MainLeaves}
 
 module _ (g : Grid) (texts : List TextId) (funcs : List Func) (main : Func) (t : Tables) (p : Pass) (s : Setting Handle) (body : List Stmt) (env : Env Handle) (first : ℕ) (dests : List ℕ) (ground : s ≡ setting_over g texts (length dests)) (outs : dests ≡ main.dests) (whole : body ≡ main.body) (bound : env ≡ output_env first dests []) (at : first ≡ first_output g) where
@@ -49,55 +47,16 @@ module _ (g : Grid) (texts : List TextId) (funcs : List Func) (main : Func) (t :
       (subst (λ z. Leaves z (traced z funcs levels) (cut_short z funcs levels) [] t body env None p q e) setting_is l))
 
 -- a run that wants memory before it begins
-same_claims : (d : ClaimView) → MoreClaims d d 0
-same_claims d =
-    record { branch = refl; list = refl; count = refl; head = refl; drawn = omega arith; drew = λ k. omega arith; held = λ h i. inl i }
-
-by_kind : (p : Pass) (c : CapKind) → MoreClaims (claims_in c p) (claims_in c p) (count c nothing)
-by_kind p cap.Nodes = same_claims p.marks.knows.claims
-by_kind p cap.Mods = same_claims p.values.knows.claims
-by_kind p cap.Links = same_claims p.readers.knows.claims
-
-none_sum : {A : Type 0} (n : ℕ) (g : A → ℕ) → n ≡ n + sum_by g []
-none_sum n g = let z : sum_by g [] ≡ 0 = refl in omega (arith, z)
-
 pub made_nothing : (g : Grid) (texts : List TextId) (funcs : List Func) (main : Func) (t : Tables) (p : Pass) → MainBegins g texts funcs main t p → MainLeaves g texts funcs main t p p (Other E None)
 made_nothing g texts funcs main t p b =
     record {
       made = nothing;
-      moves = record {
-        of = b.of;
-        stays = record { branch = refl; fixed = refl; known = refl; mine = λ m h. h; tidy = b.tidy };
-        fit = b.fit;
-        claims = by_kind p;
-        values = record {
-          mine = λ f. none_sum _ f;
-          held = λ f. none_sum _ f;
-          differ = tt;
-          lacked = λ m i. absurd i;
-          has = λ m i. absurd i;
-        };
-        nodes = record {
-          branch = refl;
-          own = λ f. none_sum _ f;
-          held = λ f. omega arith;
-          shared = refl;
-          dropped = λ x. refl;
-          has = λ o i. i;
-        };
-        links = record {
-          branch = refl;
-          mods = refl;
-          links = λ f. omega arith;
-          walk = λ f. refl;
-          shared = refl;
-        };
-        marks = record { marked = λ x. omega arith; busy = λ x i. i };
-      };
+      moves = moves_none t p b.of b.tidy b.fit;
       all = (refl, (omega (arith, b.room.2), omega (arith, b.room.1)));
       room = tt;
       full = tt;
       raises = λ e y. refl;
+      words = rewrote_none p.values.knows;
       looks = looks_none p.values.knows p.values.knows E refl refl;
       tells = λ base st end m r. (
         subst (CutOn same_handle (cut_short (main_setting g texts main) funcs levels) main.body (main_places g main) base rec.E) (sym b.room.0) (cut_on_none same_handle (main_setting g texts main) funcs levels main.body (main_places g main) base),
