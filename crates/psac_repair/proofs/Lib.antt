@@ -17,3 +17,11 @@ pub mod Sighted
 pub mod Tallying
 pub mod Adding
 pub mod Asking
+pub mod Rewiring
+pub mod Rerunning
+pub mod Dividing
+pub mod Wiring
+pub mod Watching
+pub mod Waking
+pub mod Awaking
+pub mod Wakes

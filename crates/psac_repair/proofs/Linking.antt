@@ -15,7 +15,7 @@ use Rattle.psac_repair.specs.Taken.{MayLeave, all_left, indexes}
 use Rattle.psac_repair.specs.Linked.{standing, left_link, Distinct, LinksOnce, Linked, Relinked}
 use Rattle.psac_repair.proofs.Leaving.{indexes_append}
 
-member_sum : {A : Type 0} (g : A → ℕ) (x : A) (xs : List A) → Member x xs → g x ≤ sum_by g xs
+pub member_sum : {A : Type 0} (g : A → ℕ) (x : A) (xs : List A) → Member x xs → g x ≤ sum_by g xs
 member_sum g x [] i = absurd i
 member_sum g x (y ∷ ys) i =
     let c = sum_by-cons g y ys in
@@ -27,10 +27,10 @@ die_other l k n = ap (λ b. record k { stage = cond b (dying k.stage) k.stage })
 die_standing : (s : Stands) → die s.link.index (standing s) ≡ left_link s
 die_standing s = ap (λ b. record (standing s) { stage = cond b (dying (standing s).stage) (standing s).stage }) (eq-eqb s.link.index s.link.index refl)
 
-named_other : (l : ℕ) (k : LinkView) → named l k ≡ 0 → k.link ≢ l
+pub named_other : (l : ℕ) (k : LinkView) → named l k ≡ 0 → k.link ≢ l
 named_other l k z e = let t = ap bit (eq-eqb k.link l e) in omega (arith, z, t)
 
-named_here : (s : Stands) → named s.link.index (standing s) ≡ 1
+pub named_here : (s : Stands) → named s.link.index (standing s) ≡ 1
 named_here s = ap bit (eq-eqb s.link.index s.link.index refl)
 
 -- where no link has the index nothing changes
@@ -147,15 +147,15 @@ linked_on r q gone made k m apart h =
       once = h.once;
     }
 
-distinct_front : (xs ys : List ℕ) → Distinct (xs ++ ys) → Distinct xs
+pub distinct_front : (xs ys : List ℕ) → Distinct (xs ++ ys) → Distinct xs
 distinct_front [] ys d = tt
 distinct_front (x ∷ xs) ys d = (λ i. d.0 (member_left x xs ys i), distinct_front xs ys d.1)
 
-distinct_back : (xs ys : List ℕ) → Distinct (xs ++ ys) → Distinct ys
+pub distinct_back : (xs ys : List ℕ) → Distinct (xs ++ ys) → Distinct ys
 distinct_back [] ys d = d
 distinct_back (x ∷ xs) ys d = distinct_back xs ys d.1
 
-distinct_apart : (xs ys : List ℕ) → Distinct (xs ++ ys) → (x : ℕ) → Member x xs → Member x ys → ⊥
+pub distinct_apart : (xs ys : List ℕ) → Distinct (xs ++ ys) → (x : ℕ) → Member x xs → Member x ys → ⊥
 distinct_apart [] ys d x i j = i
 distinct_apart (y ∷ xs) ys d x (inl e) j = d.0 (member_right y xs ys (subst (λ z. Member z ys) (sym e) j))
 distinct_apart (y ∷ xs) ys d x (inr i) j = distinct_apart xs ys d.1 x i j

@@ -10,4 +10,8 @@ pub mod Linked
 pub mod Seen
 pub mod Divided
 pub mod Tallied
+pub mod Rewired
+pub mod Watched
 pub mod Laws
+pub mod LinkLaws
+pub mod WatchLaws

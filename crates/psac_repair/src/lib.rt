@@ -5,9 +5,11 @@
 pub mod divide;
 pub mod entry;
 pub mod laws;
+pub mod links;
 pub mod marks;
 pub mod present;
 pub mod take;
 pub mod tally;
+pub mod watched;
 
 pub use tally::Tally;
