@@ -64,7 +64,7 @@ parts_stand m us above n t r p =
     }
 
 pub sides_stand : SidesStandUp
-sides_stand m a b j us above n l r u w rooted p pa pb is un = halves_joined m rooted us above n l r p a b j u w pa pb is un
+sides_stand m a b j us above n l r u w rooted p pa pb is un = halves_joined m rooted us above n l r p a b j pa.passed pb.passed is un u w pa pb
 
 pub block_known : BlockIsKnown
 block_known g v b t r apart n =

@@ -65,7 +65,7 @@ written_or h (w ∷ ws) =
     ]
 
 -- a modifiable that is lacked isn't seen
-not_lacked : (v : ValueView) (h : Handle) (us : List ℕ) → Knows v h us → Lacks v h.slot → ⊥
+pub not_lacked : (v : ValueView) (h : Handle) (us : List ℕ) → Knows v h us → Lacks v h.slot → ⊥
 not_lacked v h us k l =
     ⊎_elim
     (λ (a : (w : OwnedView) × Member w v.mine × (w.of ≡ h) × (w.words ≡ all_words us)). l.mine a.0 a.1 (ap (λ (z : Handle). z.slot) a.2))

@@ -20,8 +20,14 @@ pub mod Asking
 pub mod Rewiring
 pub mod Rerunning
 pub mod Dividing
+pub mod Unread
+pub mod Ordering
+pub mod Counting
 pub mod Wiring
 pub mod Watching
 pub mod Waking
 pub mod Awaking
 pub mod Wakes
+pub mod Readying
+pub mod Rooting
+pub mod Fitted

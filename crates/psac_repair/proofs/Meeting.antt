@@ -86,18 +86,18 @@ module _ (m : MarksView) (rooted : Rooted m) (us : List ℕ) (above : Option Han
             (place_cases m h.0 h.1)
       ]
 
-  module _ (a b j : MarksView) (u w : Kept) (pa : Replanted ML a out (Some n) l u) (pb : Replanted MR b out (Some n) r w) (is : j ≡ joined a b) (un : United a b j) where
+  module _ (a b j : MarksView) (pa : Passed ML a out (slots l)) (pb : Passed MR b out (slots r)) (is : j ≡ joined a b) (un : United a b j) where
     abbrev lent_own : List OwnView
     lent_own = filter (lends ways S T) m.own
 
     stem_is : stem a.claims.branch ≡ m.claims.branch
-    stem_is = ap stem pa.passed.branch ∙ stem_push m.claims.branch false
+    stem_is = ap stem pa.branch ∙ stem_push m.claims.branch false
 
     own_is : j.own ≡ (a.own ++ b.own) ++ map ways.back (map (ways.lend m.claims.branch) lent_own)
     own_is =
         ap (λ (z : MarksView). z.own) is
         ∙ ap (λ c. (a.own ++ b.own) ++ map ways.back (filter (comes_back ways c) a.shared)) stem_is
-        ∙ ap (λ k. (a.own ++ b.own) ++ map ways.back (filter (comes_back ways m.claims.branch) k)) pa.passed.shared
+        ∙ ap (λ k. (a.own ++ b.own) ++ map ways.back (filter (comes_back ways m.claims.branch) k)) pa.shared
         ∙ ap (λ k. (a.own ++ b.own) ++ map ways.back k) (back_is ways S T (rights_of m) rooted.labels (λ o. refl))
 
     from_left : (o : OwnView) → Member o a.own → Member o j.own
@@ -130,12 +130,6 @@ module _ (m : MarksView) (rooted : Rooted m) (us : List ℕ) (above : Option Han
         (member_cases o (a.own ++ b.own) (map ways.back (map (ways.lend m.claims.branch) lent_own)) (subst (Member o) own_is i))
 
     -- what one side owns the other lacks
-    first_here : (x : ℕ) → Member x (slots u) → Here a x
-    first_here = node_at a (Some n) u pa.nodes
-
-    second_here : (x : ℕ) → Member x (slots w) → Here b x
-    second_here = node_at b (Some n) w pb.nodes
-
     right_lacks : (x : ℕ) → Here a x → Lacks b x
     right_lacks x h = subst (Lacks b) h.slot (un.left_alone h.own h.is)
 
@@ -143,19 +137,13 @@ module _ (m : MarksView) (rooted : Rooted m) (us : List ℕ) (above : Option Han
     left_lacks x h = subst (Lacks a) h.slot (un.right_alone h.own h.is)
 
     right_has_old : (x : ℕ) → Member x (slots r) → Has (places b) x
-    right_has_old x i = has_on MR b out (slots r) pb.passed x (own_has MR x (node_at MR (Some n) r pr.nodes x i))
+    right_has_old x i = has_on MR b out (slots r) pb x (own_has MR x (node_at MR (Some n) r pr.nodes x i))
 
     left_has_old : (x : ℕ) → Member x (slots l) → Has (places a) x
-    left_has_old x i = has_on ML a out (slots l) pa.passed x (own_has ML x (node_at ML (Some n) l pl.nodes x i))
-
-    first_not_right : (x : ℕ) → Member x (slots u) → Member x (slots r) → ⊥
-    first_not_right x i k = lacks_not b x (right_lacks x (first_here x i)) (right_has_old x k)
-
-    second_not_left : (x : ℕ) → Member x (slots w) → Member x (slots l) → ⊥
-    second_not_left x i k = lacks_not a x (left_lacks x (second_here x i)) (left_has_old x k)
+    left_has_old x i = has_on ML a out (slots l) pa x (own_has ML x (node_at ML (Some n) l pl.nodes x i))
 
     left_only : (x : ℕ) → (o : OwnView) × Member o ML.own × (o.node.slot ≡ x) → Has (places a) x
-    left_only x o = (own_place a.claims.branch o.0, place_own a o.0 (pa.passed.keeps o.0 o.1), o.2)
+    left_only x o = (own_place a.claims.branch o.0, place_own a o.0 (pa.keeps o.0 o.1), o.2)
 
     -- what is new to a side was new to both
     new_first : (x : ℕ) → Lacks b x → Lacks ML x → Lacks m x
@@ -199,200 +187,214 @@ module _ (m : MarksView) (rooted : Rooted m) (us : List ℕ) (above : Option Han
     in_second : (x : ℕ) → Member x (slots r) → Member x below
     in_second x i = member_right x (slots l) (slots r) i
 
-    passed_joined : Passed m j out below
+    pub passed_joined : Passed m j out below
     passed_joined =
         record {
-          made = pa.passed.made ++ pb.passed.made;
-          gone = pa.passed.gone ++ pb.passed.gone;
-          raised = pa.passed.raised ++ pb.passed.raised;
+          made = pa.made ++ pb.made;
+          gone = pa.gone ++ pb.gone;
+          raised = pa.raised ++ pb.raised;
           branch = ap (λ (z : MarksView). z.claims.branch) is ∙ stem_is;
           shared = ap (λ (z : MarksView). z.shared) is
               ∙ ap (λ c. filter (above_label ways c) a.shared) stem_is
-              ∙ ap (filter (above_label ways m.claims.branch)) pa.passed.shared
+              ∙ ap (filter (above_label ways m.claims.branch)) pa.shared
               ∙ above_is ways S T (rights_of m) rooted.labels;
           keeps = λ o i.
               elim (test_or (S o.node.slot)) [
                 | inl t ↦ from_lent o i t
                 | inr t ↦
                     elim (test_or (T o.node.slot)) [
-                      | inl g ↦ from_right o (pb.passed.keeps o (goes_right m rooted us above n l r p o i (in_is o.node.slot (slots r) g)))
-                      | inr g ↦ from_left o (pa.passed.keeps o (stays_left m rooted us above n l r p o i t g))
+                      | inl g ↦ from_right o (pb.keeps o (goes_right m rooted us above n l r p o i (in_is o.node.slot (slots r) g)))
+                      | inr g ↦ from_left o (pa.keeps o (stays_left m rooted us above n l r p o i t g))
                     ]
               ];
           own = λ o i.
               ⊎_elim
-              (λ (c : Member o a.own). ⊎_elim (λ (d : Member o ML.own). inl (left_own m rooted us above n l r p o d)) (λ (d : Member o pa.passed.made). inr (member_left o pa.passed.made pb.passed.made d)) (pa.passed.own o c))
+              (λ (c : Member o a.own). ⊎_elim (λ (d : Member o ML.own). inl (left_own m rooted us above n l r p o d)) (λ (d : Member o pa.made). inr (member_left o pa.made pb.made d)) (pa.own o c))
               (λ (c : Member o b.own ⊎ Lent o). ⊎_elim
-              (λ (d : Member o b.own). ⊎_elim (λ (e : Member o MR.own). inl (right_own m rooted us above n l r p o e).0) (λ (e : Member o pb.passed.made). inr (member_right o pa.passed.made pb.passed.made e)) (pb.passed.own o d))
+              (λ (d : Member o b.own). ⊎_elim (λ (e : Member o MR.own). inl (right_own m rooted us above n l r p o e).0) (λ (e : Member o pb.made). inr (member_right o pa.made pb.made e)) (pb.own o d))
               (λ (d : Lent o). inl d.old)
               c)
               (joined_cases o i);
-          has = λ o i. ⊎_elim (λ (c : Member o pa.passed.made). from_left o (pa.passed.has o c)) (λ (c : Member o pb.passed.made). from_right o (pb.passed.has o c)) (member_cases o pa.passed.made pb.passed.made i);
+          has = λ o i. ⊎_elim (λ (c : Member o pa.made). from_left o (pa.has o c)) (λ (c : Member o pb.made). from_right o (pb.has o c)) (member_cases o pa.made pb.made i);
           new = λ o i.
               ⊎_elim
-              (λ (c : Member o pa.passed.made). new_first o.node.slot (un.left_alone o (pa.passed.has o c)) (pa.passed.new o c))
-              (λ (c : Member o pb.passed.made). new_second o.node.slot (un.right_alone o (pb.passed.has o c)) (pb.passed.new o c))
-              (member_cases o pa.passed.made pb.passed.made i);
+              (λ (c : Member o pa.made). new_first o.node.slot (un.left_alone o (pa.has o c)) (pa.new o c))
+              (λ (c : Member o pb.made). new_second o.node.slot (un.right_alone o (pb.has o c)) (pb.new o c))
+              (member_cases o pa.made pb.made i);
           below = λ o q i e.
               ⊎_elim
-              (λ (c : Member o pa.passed.made). ⊎_elim (λ (d : Member q (slots l)). inl (in_first q d)) (λ (d : IsMade pa.passed.made q). inr (d.0, member_left d.0 pa.passed.made pb.passed.made d.1, d.2)) (pa.passed.below o q c e))
-              (λ (c : Member o pb.passed.made). ⊎_elim (λ (d : Member q (slots r)). inl (in_second q d)) (λ (d : IsMade pb.passed.made q). inr (d.0, member_right d.0 pa.passed.made pb.passed.made d.1, d.2)) (pb.passed.below o q c e))
-              (member_cases o pa.passed.made pb.passed.made i);
+              (λ (c : Member o pa.made). ⊎_elim (λ (d : Member q (slots l)). inl (in_first q d)) (λ (d : IsMade pa.made q). inr (d.0, member_left d.0 pa.made pb.made d.1, d.2)) (pa.below o q c e))
+              (λ (c : Member o pb.made). ⊎_elim (λ (d : Member q (slots r)). inl (in_second q d)) (λ (d : IsMade pb.made q). inr (d.0, member_right d.0 pa.made pb.made d.1, d.2)) (pb.below o q c e))
+              (member_cases o pa.made pb.made i);
           dropped = λ x.
               let c = dropped_is x in
-              let d = pa.passed.dropped x in
-              let e = pb.passed.dropped x in
+              let d = pa.dropped x in
+              let e = pb.dropped x in
               let f = sum_dropped x in
-              let g = times_both x pa.passed.gone pb.passed.gone in
+              let g = times_both x pa.gone pb.gone in
               omega (arith, c, d, e, f, g);
-          gone_is = λ x i. ⊎_elim (λ (c : Member x pa.passed.gone). in_first x (pa.passed.gone_is x c)) (λ (c : Member x pb.passed.gone). in_second x (pb.passed.gone_is x c)) (member_cases x pa.passed.gone pb.passed.gone i);
+          gone_is = λ x i. ⊎_elim (λ (c : Member x pa.gone). in_first x (pa.gone_is x c)) (λ (c : Member x pb.gone). in_second x (pb.gone_is x c)) (member_cases x pa.gone pb.gone i);
           marked = λ x free.
               let t = not_over m rooted us above n l r p x (λ i. free (in_second x i)) in
               let c = marked_is x in
-              let d = pa.passed.marked x (λ i. free (in_first x i)) in
-              let e = pb.passed.marked x (λ i. free (in_second x i)) in
+              let d = pa.marked x (λ i. free (in_first x i)) in
+              let e = pb.marked x (λ i. free (in_second x i)) in
               let f = times_in (λ z. not (goes_over S T m z)) x m.marked (ap not t) in
               let g = times_out (goes_over S T m) x m.marked t in
-              let h = times_both x pa.passed.raised pb.passed.raised in
+              let h = times_both x pa.raised pb.raised in
               omega (arith, c, d, e, f, g, h);
           raised_is = λ x i.
               ⊎_elim
-              (λ (c : Member x pa.passed.raised). ⊎_elim (λ (d : Member x out). inl d) (λ (d : Member x (slots l)). inr (in_first x d)) (pa.passed.raised_is x c))
-              (λ (c : Member x pb.passed.raised). ⊎_elim (λ (d : Member x out). inl d) (λ (d : Member x (slots r)). inr (in_second x d)) (pb.passed.raised_is x c))
-              (member_cases x pa.passed.raised pb.passed.raised i);
+              (λ (c : Member x pa.raised). ⊎_elim (λ (d : Member x out). inl d) (λ (d : Member x (slots l)). inr (in_first x d)) (pa.raised_is x c))
+              (λ (c : Member x pb.raised). ⊎_elim (λ (d : Member x out). inl d) (λ (d : Member x (slots r)). inr (in_second x d)) (pb.raised_is x c))
+              (member_cases x pa.raised pb.raised i);
           busy = λ x free h.
-              busy_joined x (pa.passed.busy x (λ i. free (in_first x i)) (busy_left x (not_over m rooted us above n l r p x (λ i. free (in_second x i))) h));
+              busy_joined x (pa.busy x (λ i. free (in_first x i)) (busy_left x (not_over m rooted us above n l r p x (λ i. free (in_second x i))) h));
         }
 
-    kept_from : (x : ℕ) → IsKept j x → IsKept a x × IsKept b x
-    kept_from x k = let c = dropped_is x in (omega (arith, c, k), omega (arith, c, k))
+    -- with the records that stand now
+    module _ (u w : Kept) (xa : Replanted ML a out (Some n) l u) (xb : Replanted MR b out (Some n) r w) where
+      first_here : (x : ℕ) → Member x (slots u) → Here a x
+      first_here = node_at a (Some n) u xa.nodes
 
-    first_kept : (x : ℕ) → Member x (slots u) → IsKept a x → IsKept j x
-    first_kept x i k =
-        let c = dropped_is x in
-        let d = pb.passed.dropped x in
-        let e = times_none x pb.passed.gone (λ g. first_not_right x i (pb.passed.gone_is x g)) in
-        let f = times_out (goes_over S T m) x m.dropped (not_over m rooted us above n l r p x (first_not_right x i)) in
-        omega (arith, c, d, e, f, k)
+      second_here : (x : ℕ) → Member x (slots w) → Here b x
+      second_here = node_at b (Some n) w xb.nodes
 
-    -- nothing that the left side dropped before is the right side's
-    second_not_dropped : (x : ℕ) → Member x (slots w) → times x ML.dropped ≡ 0
-    second_not_dropped x i =
-        elim (zero_or (times x ML.dropped)) [
-          | inl z ↦ z
-          | inr z ↦
-              (let more : 0 < times x m.dropped = (let c = sum_dropped x in omega (arith, c, z)) in
-              let o = rooted.dropped x more in
-              let s : S o.0.node.slot ≡ false = ap S o.2 ∙ dropped_not_shared m rooted us above n l r p x more in
-              elim (test_or (T o.0.node.slot)) [
-                | inl g ↦
-                    (let h = node_at m (Some n) r p.nodes.2 x (in_is x (slots r) (ap T (sym o.2) ∙ g)) in
-                    let k = h.kept in
-                    absurd (omega (arith, more, k)))
-                | inr g ↦ absurd (lacks_not a x (left_lacks x (second_here x i)) (left_only x (o.0, stays_left m rooted us above n l r p o.0 o.1 s g, o.2)))
-              ])
-        ]
+      first_not_right : (x : ℕ) → Member x (slots u) → Member x (slots r) → ⊥
+      first_not_right x i k = lacks_not b x (right_lacks x (first_here x i)) (right_has_old x k)
 
-    second_kept : (x : ℕ) → Member x (slots w) → IsKept b x → IsKept j x
-    second_kept x i k =
-        let c = dropped_is x in
-        let d = pa.passed.dropped x in
-        let e = times_none x pa.passed.gone (λ g. second_not_left x i (pa.passed.gone_is x g)) in
-        let f = second_not_dropped x i in
-        omega (arith, c, d, e, f, k)
+      second_not_left : (x : ℕ) → Member x (slots w) → Member x (slots l) → ⊥
+      second_not_left x i k = lacks_not a x (left_lacks x (second_here x i)) (left_has_old x k)
 
-    -- the parent of a node that was there before and isn't dropped was there too
-    parent_had : (o : OwnView) (x : ℕ) → Member o m.own → o.parent ≡ Some x → IsKept m o.node.slot → Lacks m x → ⊥
-    parent_had o x i e k la = lacks_not m x la (rooted.kept o x i k e).1
+      kept_from : (x : ℕ) → IsKept j x → IsKept a x × IsKept b x
+      kept_from x k = let c = dropped_is x in (omega (arith, c, k), omega (arith, c, k))
 
-    old_kept : (x : ℕ) → IsKept j x → IsKept m x
-    old_kept x k = kept_back m j out below passed_joined x k
+      first_kept : (x : ℕ) → Member x (slots u) → IsKept a x → IsKept j x
+      first_kept x i k =
+          let c = dropped_is x in
+          let d = pb.dropped x in
+          let e = times_none x pb.gone (λ g. first_not_right x i (pb.gone_is x g)) in
+          let f = times_out (goes_over S T m) x m.dropped (not_over m rooted us above n l r p x (first_not_right x i)) in
+          omega (arith, c, d, e, f, k)
 
-    first_old : (x : ℕ) → Member x (slots u) → Member x (slots l) ⊎ Lacks m x
-    first_old x i = ⊎_elim (λ (c : Member x (slots l)). inl c) (λ (c : Lacks ML x). inr (new_first x (right_lacks x (first_here x i)) c)) (pa.covers x i)
+      -- nothing that the left side dropped before is the right side's
+      second_not_dropped : (x : ℕ) → Member x (slots w) → times x ML.dropped ≡ 0
+      second_not_dropped x i =
+          elim (zero_or (times x ML.dropped)) [
+            | inl z ↦ z
+            | inr z ↦
+                (let more : 0 < times x m.dropped = (let c = sum_dropped x in omega (arith, c, z)) in
+                let o = rooted.dropped x more in
+                let s : S o.0.node.slot ≡ false = ap S o.2 ∙ dropped_not_shared m rooted us above n l r p x more in
+                elim (test_or (T o.0.node.slot)) [
+                  | inl g ↦
+                      (let h = node_at m (Some n) r p.nodes.2 x (in_is x (slots r) (ap T (sym o.2) ∙ g)) in
+                      let k = h.kept in
+                      absurd (omega (arith, more, k)))
+                  | inr g ↦ absurd (lacks_not a x (left_lacks x (second_here x i)) (left_only x (o.0, stays_left m rooted us above n l r p o.0 o.1 s g, o.2)))
+                ])
+          ]
 
-    second_old : (x : ℕ) → Member x (slots w) → Member x (slots r) ⊎ Lacks m x
-    second_old x i = ⊎_elim (λ (c : Member x (slots r)). inl c) (λ (c : Lacks MR x). inr (new_second x (left_lacks x (second_here x i)) c)) (pb.covers x i)
+      second_kept : (x : ℕ) → Member x (slots w) → IsKept b x → IsKept j x
+      second_kept x i k =
+          let c = dropped_is x in
+          let d = pa.dropped x in
+          let e = times_none x pa.gone (λ g. second_not_left x i (pa.gone_is x g)) in
+          let f = second_not_dropped x i in
+          omega (arith, c, d, e, f, k)
 
-    -- a child of a node on one side that was there before is that side's too
-    first_child : (x : ℕ) (o : OwnView) → Member x (slots u) → Member o m.own → o.parent ≡ Some x → IsKept m o.node.slot → Member o.node.slot (slots l)
-    first_child x o i q e k =
-        ⊎_elim (λ (c : Member x (slots l)). child_in m l p.families.1 x c o q e k) (λ (c : Lacks m x). absurd (parent_had o x q e k c)) (first_old x i)
+      -- the parent of a node that was there before and isn't dropped was there too
+      parent_had : (o : OwnView) (x : ℕ) → Member o m.own → o.parent ≡ Some x → IsKept m o.node.slot → Lacks m x → ⊥
+      parent_had o x i e k la = lacks_not m x la (rooted.kept o x i k e).1
 
-    second_child : (x : ℕ) (o : OwnView) → Member x (slots w) → Member o m.own → o.parent ≡ Some x → IsKept m o.node.slot → Member o.node.slot (slots r)
-    second_child x o i q e k =
-        ⊎_elim (λ (c : Member x (slots r)). child_in m r p.families.2 x c o q e k) (λ (c : Lacks m x). absurd (parent_had o x q e k c)) (second_old x i)
+      old_kept : (x : ℕ) → IsKept j x → IsKept m x
+      old_kept x k = kept_back m j out below passed_joined x k
 
-    first_families : (x : ℕ) (ys : List ℕ) → Member x (slots u) → Children a x ys → Children j x ys
-    first_families x ys i c o q e k =
-        ⊎_elim
-        (λ (d : Member o a.own). c o d e (kept_from o.node.slot k).0)
-        (λ (d : Member o b.own ⊎ Lent o). absurd (⊎_elim
-        (λ (f : Member o b.own). ⊎_elim
-        (λ (g : Member o MR.own).
-        let h = right_own m rooted us above n l r p o g in
-        apart_sides m rooted us above n l r p o.node.slot (first_child x o i h.0 e (old_kept o.node.slot k)) h.1)
-        (λ (g : Member o pb.passed.made). ⊎_elim
-        (λ (h : Member x (slots r)). first_not_right x i h)
-        (λ (h : IsMade pb.passed.made x). lacks_not b x (right_lacks x (first_here x i)) (own_place b.claims.branch h.0, place_own b h.0 (pb.passed.has h.0 h.1), h.2))
-        (pb.passed.below o x g e))
-        (pb.passed.own o f))
-        (λ (f : Lent o). not_both f.shared (left_not_shared m rooted us above n l r p o.node.slot (first_child x o i f.old e (old_kept o.node.slot k))))
-        d))
-        (joined_cases o q)
+      first_old : (x : ℕ) → Member x (slots u) → Member x (slots l) ⊎ Lacks m x
+      first_old x i = ⊎_elim (λ (c : Member x (slots l)). inl c) (λ (c : Lacks ML x). inr (new_first x (right_lacks x (first_here x i)) c)) (xa.covers x i)
 
-    second_families : (x : ℕ) (ys : List ℕ) → Member x (slots w) → Children b x ys → Children j x ys
-    second_families x ys i c o q e k =
-        ⊎_elim
-        (λ (d : Member o a.own). absurd (⊎_elim
-        (λ (g : Member o ML.own).
-        let h = member_filter (stays ways S T) o m.own g in
-        let f = and_is (not (S o.node.slot)) (not (T o.node.slot)) h.1 in
-        not_both (is_in o.node.slot (slots r) (second_child x o i h.0 e (old_kept o.node.slot k))) (not_is (T o.node.slot) f.1))
-        (λ (g : Member o pa.passed.made). ⊎_elim
-        (λ (h : Member x (slots l)). second_not_left x i h)
-        (λ (h : IsMade pa.passed.made x). lacks_not a x (left_lacks x (second_here x i)) (own_place a.claims.branch h.0, place_own a h.0 (pa.passed.has h.0 h.1), h.2))
-        (pa.passed.below o x g e))
-        (pa.passed.own o d)))
-        (λ (d : Member o b.own ⊎ Lent o). ⊎_elim
-        (λ (f : Member o b.own). c o f e (kept_from o.node.slot k).1)
-        (λ (f : Lent o). absurd (not_both f.shared (right_not_shared m rooted us above n l r p o.node.slot (second_child x o i f.old e (old_kept o.node.slot k)))))
-        d)
-        (joined_cases o q)
+      second_old : (x : ℕ) → Member x (slots w) → Member x (slots r) ⊎ Lacks m x
+      second_old x i = ⊎_elim (λ (c : Member x (slots r)). inl c) (λ (c : Lacks MR x). inr (new_second x (left_lacks x (second_here x i)) c)) (xb.covers x i)
 
-    left_had : (x : ℕ) → 0 < times x a.marked → Has (places a) x
-    left_had = had_on ML a out (slots l) pa.passed (λ x i. (pl.known x i).0) (λ x i. own_has ML x (node_at ML (Some n) l pl.nodes x i)) pl.had
+      -- a child of a node on one side that was there before is that side's too
+      first_child : (x : ℕ) (o : OwnView) → Member x (slots u) → Member o m.own → o.parent ≡ Some x → IsKept m o.node.slot → Member o.node.slot (slots l)
+      first_child x o i q e k =
+          ⊎_elim (λ (c : Member x (slots l)). child_in m l p.families.1 x c o q e k) (λ (c : Lacks m x). absurd (parent_had o x q e k c)) (first_old x i)
 
-    right_had : (x : ℕ) → 0 < times x b.marked → Has (places b) x
-    right_had = had_on MR b out (slots r) pb.passed (λ x i. (pr.known x i).0) (λ x i. own_has MR x (node_at MR (Some n) r pr.nodes x i)) pr.had
+      second_child : (x : ℕ) (o : OwnView) → Member x (slots w) → Member o m.own → o.parent ≡ Some x → IsKept m o.node.slot → Member o.node.slot (slots r)
+      second_child x o i q e k =
+          ⊎_elim (λ (c : Member x (slots r)). child_in m r p.families.2 x c o q e k) (λ (c : Lacks m x). absurd (parent_had o x q e k c)) (second_old x i)
 
-    first_unmarked : NoneMarked j (slots u)
-    first_unmarked x i =
-        let c = marked_is x in
-        let d = pa.unmarked x i in
-        let e : times x b.marked ≡ 0 = elim (zero_or (times x b.marked)) [ inl z ↦ z | inr z ↦ absurd (lacks_not b x (right_lacks x (first_here x i)) (right_had x (omega (arith, z)))) ] in
-        omega (arith, c, d, e)
+      first_families : (x : ℕ) (ys : List ℕ) → Member x (slots u) → Children a x ys → Children j x ys
+      first_families x ys i c o q e k =
+          ⊎_elim
+          (λ (d : Member o a.own). c o d e (kept_from o.node.slot k).0)
+          (λ (d : Member o b.own ⊎ Lent o). absurd (⊎_elim
+          (λ (f : Member o b.own). ⊎_elim
+          (λ (g : Member o MR.own).
+          let h = right_own m rooted us above n l r p o g in
+          apart_sides m rooted us above n l r p o.node.slot (first_child x o i h.0 e (old_kept o.node.slot k)) h.1)
+          (λ (g : Member o pb.made). ⊎_elim
+          (λ (h : Member x (slots r)). first_not_right x i h)
+          (λ (h : IsMade pb.made x). lacks_not b x (right_lacks x (first_here x i)) (own_place b.claims.branch h.0, place_own b h.0 (pb.has h.0 h.1), h.2))
+          (pb.below o x g e))
+          (pb.own o f))
+          (λ (f : Lent o). not_both f.shared (left_not_shared m rooted us above n l r p o.node.slot (first_child x o i f.old e (old_kept o.node.slot k))))
+          d))
+          (joined_cases o q)
 
-    second_unmarked : NoneMarked j (slots w)
-    second_unmarked x i =
-        let c = marked_is x in
-        let d = pb.unmarked x i in
-        let e : times x a.marked ≡ 0 = elim (zero_or (times x a.marked)) [ inl z ↦ z | inr z ↦ absurd (lacks_not a x (left_lacks x (second_here x i)) (left_had x (omega (arith, z)))) ] in
-        omega (arith, c, d, e)
+      second_families : (x : ℕ) (ys : List ℕ) → Member x (slots w) → Children b x ys → Children j x ys
+      second_families x ys i c o q e k =
+          ⊎_elim
+          (λ (d : Member o a.own). absurd (⊎_elim
+          (λ (g : Member o ML.own).
+          let h = member_filter (stays ways S T) o m.own g in
+          let f = and_is (not (S o.node.slot)) (not (T o.node.slot)) h.1 in
+          not_both (is_in o.node.slot (slots r) (second_child x o i h.0 e (old_kept o.node.slot k))) (not_is (T o.node.slot) f.1))
+          (λ (g : Member o pa.made). ⊎_elim
+          (λ (h : Member x (slots l)). second_not_left x i h)
+          (λ (h : IsMade pa.made x). lacks_not a x (left_lacks x (second_here x i)) (own_place a.claims.branch h.0, place_own a h.0 (pa.has h.0 h.1), h.2))
+          (pa.below o x g e))
+          (pa.own o d)))
+          (λ (d : Member o b.own ⊎ Lent o). ⊎_elim
+          (λ (f : Member o b.own). c o f e (kept_from o.node.slot k).1)
+          (λ (f : Lent o). absurd (not_both f.shared (right_not_shared m rooted us above n l r p o.node.slot (second_child x o i f.old e (old_kept o.node.slot k)))))
+          d)
+          (joined_cases o q)
 
-    pub halves_joined : Halves m j us n l r u w
-    halves_joined =
-        record {
-          passed = passed_joined;
-          nodes = (
-            nodes_map a j (Some n) u (λ over h i s. (from_left (record { node = h; parent = slot_of over }) s.0, first_kept h.slot i s.1)) pa.nodes,
-            nodes_map b j (Some n) w (λ over h i s. (from_right (record { node = h; parent = slot_of over }) s.0, second_kept h.slot i s.1)) pb.nodes,
-          );
-          families = (families_map a j u first_families pa.families, families_map b j w second_families pb.families);
-          once = (pa.once, pb.once);
-          apart = λ x i k. lacks_not b x (right_lacks x (first_here x i)) (own_has b x (second_here x k));
-          tops_are = (pa.tops_are, pb.tops_are);
-          unmarked = (first_unmarked, second_unmarked);
-          first_covers = first_old;
-          second_covers = second_old;
-        }
+      left_had : (x : ℕ) → 0 < times x a.marked → Has (places a) x
+      left_had = had_on ML a out (slots l) pa (λ x i. (pl.known x i).0) (λ x i. own_has ML x (node_at ML (Some n) l pl.nodes x i)) pl.had
+
+      right_had : (x : ℕ) → 0 < times x b.marked → Has (places b) x
+      right_had = had_on MR b out (slots r) pb (λ x i. (pr.known x i).0) (λ x i. own_has MR x (node_at MR (Some n) r pr.nodes x i)) pr.had
+
+      first_unmarked : NoneMarked j (slots u)
+      first_unmarked x i =
+          let c = marked_is x in
+          let d = xa.unmarked x i in
+          let e : times x b.marked ≡ 0 = elim (zero_or (times x b.marked)) [ inl z ↦ z | inr z ↦ absurd (lacks_not b x (right_lacks x (first_here x i)) (right_had x (omega (arith, z)))) ] in
+          omega (arith, c, d, e)
+
+      second_unmarked : NoneMarked j (slots w)
+      second_unmarked x i =
+          let c = marked_is x in
+          let d = xb.unmarked x i in
+          let e : times x a.marked ≡ 0 = elim (zero_or (times x a.marked)) [ inl z ↦ z | inr z ↦ absurd (lacks_not a x (left_lacks x (second_here x i)) (left_had x (omega (arith, z)))) ] in
+          omega (arith, c, d, e)
+
+      pub halves_joined : Halves m j us n l r u w
+      halves_joined =
+          record {
+            passed = passed_joined;
+            nodes = (
+              nodes_map a j (Some n) u (λ over h i s. (from_left (record { node = h; parent = slot_of over }) s.0, first_kept h.slot i s.1)) xa.nodes,
+              nodes_map b j (Some n) w (λ over h i s. (from_right (record { node = h; parent = slot_of over }) s.0, second_kept h.slot i s.1)) xb.nodes,
+            );
+            families = (families_map a j u first_families xa.families, families_map b j w second_families xb.families);
+            once = (xa.once, xb.once);
+            apart = λ x i k. lacks_not b x (right_lacks x (first_here x i)) (own_has b x (second_here x k));
+            tops_are = (xa.tops_are, xb.tops_are);
+            unmarked = (first_unmarked, second_unmarked);
+            first_covers = first_old;
+            second_covers = second_old;
+          }

@@ -171,7 +171,7 @@ module _ (m : MarksView) (rooted : Rooted m) (us : List ℕ) (above : Option Han
       }
 
   -- what goes over is of the right side
-  over_right : (x : ℕ) → goes_over Sh Ri m x ≡ true → Member x (slots r)
+  pub over_right : (x : ℕ) → goes_over Sh Ri m x ≡ true → Member x (slots r)
   over_right x t =
       let a = and_is (ltb 0 (times x (map ways.slot m.own))) (not (Sh x) && Ri x) t in
       let b = and_is (not (Sh x)) (Ri x) a.1 in

@@ -6,7 +6,7 @@ use Rattle.psac_ops.specs.declared.plain.Handle.{Handle}
 use Rattle.psac_ops.specs.declared.plain.Plain.{Plain}
 use Rattle.psac_slots.specs.Handles.{Member, word_of}
 use Rattle.psac_slots.proofs.Pairs.{member_left, member_right, member_cases, map_member, member_map}
-use Rattle.psac_laws.proofs.Places.{nat_is, nat_same, test_or, not_both}
+use Rattle.psac_laws.proofs.Places.{nat_is, nat_same, test_or, not_true, not_both}
 use Rattle.psac_readers.specs.declared.view.Stage.{Stage}
 use Rattle.psac_readers.specs.declared.view.Stage.TheVariants.{Claimed, UnderWay, In, Dead}
 use Rattle.psac_readers.specs.declared.view.LinkView.{LinkView}
@@ -22,8 +22,10 @@ use Rattle.psac_raise.specs.Raise.{IsSlot, LeadsIn, LeadUpIn}
 use Rattle.psac_record.specs.declared.parts.Reading.{Reading}
 use Rattle.psac_record.specs.declared.parts.Seen.{Seen}
 use Rattle.psac_record.specs.Kept.{Kept, E, A, W, S, P, R, Stands, stands, links_of, bare}
+use Rattle.psac_traced.specs.Rec.{writes}
 use Rattle.psac_trace.specs.Raising.{puts}
 use Rattle.psac_trace.proofs.Leading.{sum_member, zero_or}
+use Rattle.psac_trace.proofs.Heaps.{in_front, in_back}
 use Rattle.psac_trace.proofs.Raised.{puts_in}
 use Rattle.psac_repair.specs.Divided.{writes_slot}
 use Rattle.psac_repair.specs.Marks.{Sits, Nodes}
@@ -34,11 +36,26 @@ use Rattle.psac_repair.specs.Rewired.{Writes, reads_in, Unread, Ordered, NodeIn,
 use Rattle.psac_repair.proofs.Leaving.{indexes_append}
 use Rattle.psac_repair.proofs.Linking.{member_sum, named_here, relinked_none, relinked_then, distinct_front, distinct_back, distinct_apart}
 use Rattle.psac_repair.proofs.Passing.{kept_on}
-use Rattle.psac_repair.proofs.Forked.{touch_slot}
+use Rattle.psac_repair.proofs.Forked.{Touches, touch_slot, slot_touch}
 
 -- what was written is touched
 pub wrote_slot : (k : Kept) (s : ℕ) → Writes k s → writes_slot (bare k) s ≡ true
 wrote_slot k s w = subst (λ z. writes_slot (bare k) z ≡ true) w.2 (touch_slot (bare k) w.0.0 (inr (puts_in k w.0.0 w.0.1 w.1)))
+
+-- what a step doesn't touch neither part does
+pub free_first : (n : Handle) (t k : Kept) (s : ℕ) → writes_slot (bare (S n t k)) s ≡ false → writes_slot (bare t) s ≡ false
+free_first n t k s e =
+    not_true (writes_slot (bare t) s) (λ a.
+    let q = slot_touch (bare t) s a in
+    let up : Touches (bare (S n t k)) q.0 = ⊎_elim (λ b. inl (inl b)) (λ b. inr (in_back (writes (bare k)) (writes (bare t)) q.0 b)) q.1 in
+    not_both (subst (λ z. writes_slot (bare (S n t k)) z ≡ true) q.2 (touch_slot (bare (S n t k)) q.0 up)) e)
+
+pub free_second : (n : Handle) (t k : Kept) (s : ℕ) → writes_slot (bare (S n t k)) s ≡ false → writes_slot (bare k) s ≡ false
+free_second n t k s e =
+    not_true (writes_slot (bare k) s) (λ a.
+    let q = slot_touch (bare k) s a in
+    let up : Touches (bare (S n t k)) q.0 = ⊎_elim (λ b. inl (inr b)) (λ b. inr (in_front (writes (bare k)) (writes (bare t)) q.0 b)) q.1 in
+    not_both (subst (λ z. writes_slot (bare (S n t k)) z ≡ true) q.2 (touch_slot (bare (S n t k)) q.0 up)) e)
 
 pub writes_first : (n : Handle) (t k : Kept) (s : ℕ) → Writes t s → Writes (S n t k) s
 writes_first n t k s w = (w.0, member_left w.0 (puts t) (puts k) w.1, w.2)

@@ -48,13 +48,13 @@ module _ (w : Setting Handle) (funcs : List Func) (Q : List Stmt → Type 0) (cl
     whole_right : (m : Handle) → Target o.now Two o.here m → Target st end.unwritten env m
     whole_right m t = to_whole w funcs Q closed go reading l k r apart v room body env heap base st end s o m (to_right w funcs Q closed go reading l k r apart v room body env heap base st end s o m t)
 
-    left_fills : Fills Always (Makes l) o.now One o.here heap (writes l)
+    pub left_fills : Fills Always (Makes l) o.now One o.here heap (writes l)
     left_fills = old_left w funcs Q closed go reading l k r apart v room body env heap base st end s o
 
     right_fills : Fills Always (Makes k) o.now Two o.here (writes l ++ heap) (writes k)
     right_fills = subst (λ z. Fills Always (Makes k) o.now z o.here (writes l ++ heap) (writes k)) o.two_is (filled w funcs Q closed go reading k o.inner o.rs o.here (writes l ++ heap) o.now o.two_end apart.0.1 (o.other left_fills))
 
-    sides_apart : (m : Handle) → Touches l m → Touches k m → ⊥
+    pub sides_apart : (m : Handle) → Touches l m → Touches k m → ⊥
     sides_apart m (inl a) (inl b) = apart.0.2 m a b
     sides_apart m (inl a) (inr b) = elim (right_fills.spares m tt b) [ inl t ↦ s.beside m (inl (inl a)) (whole_right m t) | inr c ↦ apart.0.2 m a c ]
     sides_apart m (inr a) (inl b) = elim (left_fills.spares m tt a) [ inl t ↦ s.beside m (inl (inr b)) (whole_left m t) | inr c ↦ apart.0.2 m c b ]
@@ -75,7 +75,7 @@ module _ (w : Setting Handle) (funcs : List Func) (Q : List Stmt → Type 0) (cl
     left_out m (inl a) = s.unused m (inl (inl a))
     left_out m (inr a) = elim (left_fills.spares m tt a) [ inl t ↦ none_whole m (whole_left m t) | inr c ↦ s.unused m (inl (inl c)) ]
 
-    right_out : (m : Handle) → Touches k m → held base m ≡ None
+    pub right_out : (m : Handle) → Touches k m → held base m ≡ None
     right_out m (inl a) = s.unused m (inl (inr a))
     right_out m (inr a) = elim (right_fills.spares m tt a) [ inl t ↦ none_whole m (whole_right m t) | inr c ↦ s.unused m (inl (inr c)) ]
 

@@ -50,7 +50,7 @@ after_base (Good new) base = writes new ++ base
 after_base e base = base
 
 -- what reads named, the base has
-each_in : (w : Setting Handle) (env : Env Handle) (heap base : Heap) (items : List ReadItem) (reads : Reads Handle) → in_order (map (read_of (listed w) w env heap) items) ≡ Ok reads → AllInside w env base items → EachOf (λ m x. In base m) reads
+pub each_in : (w : Setting Handle) (env : Env Handle) (heap base : Heap) (items : List ReadItem) (reads : Reads Handle) → in_order (map (read_of (listed w) w env heap) items) ≡ Ok reads → AllInside w env base items → EachOf (λ m x. In base m) reads
 each_in w env heap base [] reads h a = subst (EachOf (λ m x. In base m)) (ok_is h) tt
 each_in w env heap base (item ∷ items) reads h a =
     let b = ok_then (read_of (listed w) w env heap item) _ reads h in

@@ -39,28 +39,31 @@ known_same : (v u : ValueView) (node : Handle) (reads : List Seen) → ((s : Sta
 known_same v u node [] f k = tt
 known_same v u node (s ∷ reads) f k = ((k.0.0, f (stands node s) (inl refl) k.0.0 k.0.1), known_same v u node reads (λ z i. f z (inr i)) k.1)
 
-present_same : (v u : ValueView) → ((h : Handle) (x : Value Handle) → Sees u h x → Sees v h x) → (reads : List Seen) → EachOf (Present v) (reads_of reads) → EachOf (Present u) (reads_of reads)
-present_same v u back [] p = tt
-present_same v u back (s ∷ reads) p = (λ y z. p.0 y (back s.from y z), present_same v u back reads p.1)
+present_same : (v u : ValueView) (node : Handle) (reads : List Seen) → ((s : Stands) → Member s (map (stands node) reads) → (x : Value Handle) → Sees v s.of x → (y : Value Handle) → Sees u s.of y → Sees v s.of y) → Known v reads → EachOf (Present v) (reads_of reads) → EachOf (Present u) (reads_of reads)
+present_same v u node [] back k p = tt
+present_same v u node (s ∷ reads) back k p = (λ y z. p.0 y (back (stands node s) (inl refl) k.0.0 k.0.1 y z), present_same v u node reads (λ z i. back z (inr i)) k.1 p.1)
 
-pub watched_same : (v u : ValueView) (m n : MarksView) → ((h : Handle) (x : Value Handle) → Sees u h x → Sees v h x) → (k : Tree) → ((s : Stands) → Member s (links_of k) → (x : Value Handle) → Sees v s.of x → Sees u s.of x) → ((x : ℕ) → Member x (slots k) → IsBusy m x → IsBusy n x) → Watched v m k → Watched u n k
-watched_same v u m n back E f busy w = tt
-watched_same v u m n back (A h k) f busy w = watched_same v u m n back k f busy w
-watched_same v u m n back (W h x k) f busy w = watched_same v u m n back k f busy w
-watched_same v u m n back (S c t k) f busy w = (
-  watched_same v u m n back t (λ s i. f s (member_left s (links_of t) (links_of k) i)) (λ x i. busy x (inr (member_left x (slots t) (slots k) i))) w.0,
-  watched_same v u m n back k (λ s i. f s (member_right s (links_of t) (links_of k) i)) (λ x i. busy x (inr (member_right x (slots t) (slots k) i))) w.1,
+pub watched_same : (v u : ValueView) (m n : MarksView) (k : Tree) → ((s : Stands) → Member s (links_of k) → (x : Value Handle) → Sees v s.of x → Sees u s.of x) → ((s : Stands) → Member s (links_of k) → (x : Value Handle) → Sees v s.of x → (y : Value Handle) → Sees u s.of y → Sees v s.of y) → ((x : ℕ) → Member x (slots k) → IsBusy m x → IsBusy n x) → Watched v m k → Watched u n k
+watched_same v u m n E f back busy w = tt
+watched_same v u m n (A h k) f back busy w = watched_same v u m n k f back busy w
+watched_same v u m n (W h x k) f back busy w = watched_same v u m n k f back busy w
+watched_same v u m n (S c t k) f back busy w = (
+  watched_same v u m n t (λ s i. f s (member_left s (links_of t) (links_of k) i)) (λ s i. back s (member_left s (links_of t) (links_of k) i)) (λ x i. busy x (inr (member_left x (slots t) (slots k) i))) w.0,
+  watched_same v u m n k (λ s i. f s (member_right s (links_of t) (links_of k) i)) (λ s i. back s (member_right s (links_of t) (links_of k) i)) (λ x i. busy x (inr (member_right x (slots t) (slots k) i))) w.1,
 )
-watched_same v u m n back (P c t k) f busy w = (
-  watched_same v u m n back t (λ s i. f s (member_left s (links_of t) (links_of k) i)) (λ x i. busy x (inr (member_left x (slots t) (slots k) i))) w.0,
-  watched_same v u m n back k (λ s i. f s (member_right s (links_of t) (links_of k) i)) (λ x i. busy x (inr (member_right x (slots t) (slots k) i))) w.1,
+watched_same v u m n (P c t k) f back busy w = (
+  watched_same v u m n t (λ s i. f s (member_left s (links_of t) (links_of k) i)) (λ s i. back s (member_left s (links_of t) (links_of k) i)) (λ x i. busy x (inr (member_left x (slots t) (slots k) i))) w.0,
+  watched_same v u m n k (λ s i. f s (member_right s (links_of t) (links_of k) i)) (λ s i. back s (member_right s (links_of t) (links_of k) i)) (λ x i. busy x (inr (member_right x (slots t) (slots k) i))) w.1,
 )
-watched_same v u m n back (R b t) f busy w = (
+watched_same v u m n (R b t) f back busy w = (
   (
     known_same v u b.node b.reads (λ s i. f s (member_left s (map (stands b.node) b.reads) (links_of t) i)) w.0.0,
-    ⊎_elim (λ (p : EachOf (Present v) (reads_of b.reads)). inl (present_same v u back b.reads p)) (λ (p : IsBusy m b.node.slot). inr (busy b.node.slot (inl refl) p)) w.0.1,
+    ⊎_elim
+        (λ (p : EachOf (Present v) (reads_of b.reads)). inl (present_same v u b.node b.reads (λ s i. back s (member_left s (map (stands b.node) b.reads) (links_of t) i)) w.0.0 p))
+        (λ (p : IsBusy m b.node.slot). inr (busy b.node.slot (inl refl) p))
+        w.0.1,
   ),
-  watched_same v u m n back t (λ s i. f s (member_right s (map (stands b.node) b.reads) (links_of t) i)) (λ x i. busy x (inr i)) w.1,
+  watched_same v u m n t (λ s i. f s (member_right s (map (stands b.node) b.reads) (links_of t) i)) (λ s i. back s (member_right s (map (stands b.node) b.reads) (links_of t) i)) (λ x i. busy x (inr i)) w.1,
 )
 
 module _ (shared to_right : ℕ → Bool) (v : ValueView) where
@@ -127,25 +130,15 @@ seen_parts l r j is h x s =
         inl (inr (a.0, (member_filter (above ways (stem l.claims.branch)) a.0 l.known a.1).0, a.2, a.3)))
         k
 
--- what both sides did to words, joined
-module _ (shared to_right links : ℕ → Bool) (v : ValueView) (tidy : Tidy v) (r : ReadersView) (a b j : ValueView) (am bm jm : MarksView) (us : List ℕ) (ka : Kept (values.left_of shared to_right v) a) (kb : Kept (values.right_of shared to_right v) b) (is : j ≡ values.joined a b) (un : United a b j)
-    (wa : Woken (readers.left_of shared to_right links r) (values.left_of shared to_right v) a am us) (wb : Woken (readers.right_of shared to_right links r) (values.right_of shared to_right v) b bm us) (marked : jm ≡ marks.joined am bm) where
-  abbrev RL : ReadersView
-  RL = readers.left_of shared to_right links r
-
-  abbrev RR : ReadersView
-  RR = readers.right_of shared to_right links r
-
+-- where the words of a modifiable went at a division
+module _ (shared to_right : ℕ → Bool) (v : ValueView) (tidy : Tidy v) where
   abbrev SL : ValueView
   SL = values.left_of shared to_right v
 
   abbrev SR : ValueView
   SR = values.right_of shared to_right v
 
-  to_joined : (h : Handle) (x : Value Handle) → Sees a h x ⊎ Sees b h x → Sees j h x
-  to_joined h x s = ⊎_elim (λ (y : Sees a h x). (y.0, y.1, un.knows h y.0 (inl y.2), y.3, y.4)) (λ (y : Sees b h x). (y.0, y.1, un.knows h y.0 (inr y.2), y.3, y.4)) s
-
-  -- where the words of a modifiable went: to both sides, or to one
+  -- to both sides, or to one
   pub data Where (h : Handle) (x : Value Handle) : Type 0 where
     Both : (one : Sees SL h x) (two : Sees SR h x) (no_left : Has SL h → ⊥) (no_right : Has SR h → ⊥) → Where h x
     Left : (has : Has SL h) (one : Sees SL h x) (s : shared h.slot ≡ false) (t : to_right h.slot ≡ false) → Where h x
@@ -193,48 +186,72 @@ module _ (shared to_right links : ℕ → Bool) (v : ValueView) (tidy : Tidy v) 
       (λ (q : (e : KnownView) × Member e v.known × (e.of ≡ h) × (e.words ≡ all_words s.0)). known_both h x s (q.0, q.1, q.2))
       s.2
 
-  goes_left : (h : Handle) (l : LinkView) → l.of ≡ h.slot → shared h.slot ≡ false → to_right h.slot ≡ false → readers.right_link shared to_right links l ≡ false
-  goes_left h l o e t = ap (λ z. cond z (links l.link) (to_right l.of)) (ap shared o ∙ e) ∙ ap to_right o ∙ t
+  -- what both sides did to words, joined
+  module _ (a b j : ValueView) (ka : Kept SL a) (kb : Kept SR b) (is : j ≡ values.joined a b) (un : United a b j) where
+    to_joined : (h : Handle) (x : Value Handle) → Sees a h x ⊎ Sees b h x → Sees j h x
+    to_joined h x s = ⊎_elim (λ (y : Sees a h x). (y.0, y.1, un.knows h y.0 (inl y.2), y.3, y.4)) (λ (y : Sees b h x). (y.0, y.1, un.knows h y.0 (inr y.2), y.3, y.4)) s
 
-  goes_over : (h : Handle) (l : LinkView) → l.of ≡ h.slot → shared h.slot ≡ false → to_right h.slot ≡ true → readers.right_link shared to_right links l ≡ true
-  goes_over h l o e t = ap (λ z. cond z (links l.link) (to_right l.of)) (ap shared o ∙ e) ∙ ap to_right o ∙ t
+    from_parts : (h : Handle) → ((y : Value Handle) → Sees a h y → Sees v h y) → ((y : Value Handle) → Sees b h y → Sees v h y) → (y : Value Handle) → Sees j h y → Sees v h y
+    from_parts h f g y s = ⊎_elim (λ (q : Sees a h y). f y q) (λ (q : Sees b h y). g y q) (seen_parts a b j is h y s)
 
-  awake_left : (h : Handle) → shared h.slot ≡ false → to_right h.slot ≡ false → AwakeIn RL am us h.slot → AwakeIn r jm us h.slot
-  awake_left h e t w l g i o d c low k =
-      busy_joined am bm jm marked g.slot (inl (w l g (filter_member (λ z. not (readers.right_link shared to_right links z)) l r.links i (ap not (goes_left h l o e t))) o d c low k))
+    -- what both know and neither touched
+    pub steady_joined : (touched : ℕ → Bool) → ((s : ℕ) → touched s ≡ false → shared s ≡ true) → ((h : Handle) (x : Value Handle) → Sees SL h x → touched h.slot ≡ false → Sees a h x × ((y : Value Handle) → Sees a h y → Sees SL h y)) → ((h : Handle) (x : Value Handle) → Sees SR h x → touched h.slot ≡ false → Sees b h x × ((y : Value Handle) → Sees b h y → Sees SR h y)) → (h : Handle) (x : Value Handle) → Sees v h x → touched h.slot ≡ false → Sees j h x × ((y : Value Handle) → Sees j h y → Sees v h y)
+    steady_joined touched free sa sb h x s t = by (where_known h x s)
+      where
+        by : Where h x → Sees j h x × ((y : Value Handle) → Sees j h y → Sees v h y)
+        by (Both one two none nor) =
+            let p = sa h x one t in
+            let q = sb h x two t in
+            (to_joined h x (inl p.0), from_parts h (λ y z. left_back shared to_right v h y (p.1 y z)) (λ y z. right_back shared to_right v h y (q.1 y z)))
+        by (Left has one e f) = absurd (not_both (free h.slot t) e)
+        by (Right has two e f) = absurd (not_both (free h.slot t) e)
 
-  awake_right : (h : Handle) → shared h.slot ≡ false → to_right h.slot ≡ true → AwakeIn RR bm us h.slot → AwakeIn r jm us h.slot
-  awake_right h e t w l g i o d c low k =
-      busy_joined am bm jm marked g.slot (inr (w l g (filter_member (readers.right_link shared to_right links) l r.links i (goes_over h l o e t)) o d c low k))
+    module _ (links : ℕ → Bool) (r : ReadersView) (am bm jm : MarksView) (us : List ℕ) (wa : Woken (readers.left_of shared to_right links r) SL a am us) (wb : Woken (readers.right_of shared to_right links r) SR b bm us) (marked : jm ≡ marks.joined am bm) where
+      abbrev RL : ReadersView
+      RL = readers.left_of shared to_right links r
 
-  from_parts : (h : Handle) → ((y : Value Handle) → Sees a h y → Sees v h y) → ((y : Value Handle) → Sees b h y → Sees v h y) → (y : Value Handle) → Sees j h y → Sees v h y
-  from_parts h f g y s = ⊎_elim (λ (q : Sees a h y). f y q) (λ (q : Sees b h y). g y q) (seen_parts a b j is h y s)
+      abbrev RR : ReadersView
+      RR = readers.right_of shared to_right links r
 
-  same_joined : (h : Handle) (x : Value Handle) → Where h x → ((y : Value Handle) → Sees j h y → Sees v h y) ⊎ (Has v h × AwakeIn r jm us h.slot)
-  same_joined h x (Both one two none nor) =
-      elim (wa.same h x one) [
-        | inr q ↦ absurd (none q.0)
-        | inl f ↦
-            elim (wb.same h x two) [
-              | inr q ↦ absurd (nor q.0)
-              | inl g ↦ inl (from_parts h (λ y s. left_back shared to_right v h y (f y s)) (λ y s. right_back shared to_right v h y (g y s)))
-            ]
-      ]
-  same_joined h x (Left has one e t) =
-      elim (wa.same h x one) [
-        | inr q ↦ inr ((left_from shared to_right v h q.0).0, awake_left h e t q.1)
-        | inl f ↦ inl (from_parts h (λ y s. left_back shared to_right v h y (f y s)) (λ y s. left_unseen shared to_right v tidy a b j ka kb is un h y (ka.mine h has) s))
-      ]
-  same_joined h x (Right has two e t) =
-      elim (wb.same h x two) [
-        | inr q ↦ inr ((right_from shared to_right v h q.0).0, awake_right h e t q.1)
-        | inl f ↦ inl (from_parts h (λ y s. right_unseen shared to_right v tidy a b j ka kb is un h y (kb.mine h has) s) (λ y s. right_back shared to_right v h y (f y s)))
-      ]
+      goes_left : (h : Handle) (l : LinkView) → l.of ≡ h.slot → shared h.slot ≡ false → to_right h.slot ≡ false → readers.right_link shared to_right links l ≡ false
+      goes_left h l o e t = ap (λ z. cond z (links l.link) (to_right l.of)) (ap shared o ∙ e) ∙ ap to_right o ∙ t
 
-  knows_joined : (h : Handle) (x : Value Handle) → Where h x → (y : Value Handle) × Sees j h y
-  knows_joined h x (Both one two none nor) = let q = wa.knows h x one in (q.0, to_joined h q.0 (inl q.1))
-  knows_joined h x (Left has one e t) = let q = wa.knows h x one in (q.0, to_joined h q.0 (inl q.1))
-  knows_joined h x (Right has two e t) = let q = wb.knows h x two in (q.0, to_joined h q.0 (inr q.1))
+      goes_over : (h : Handle) (l : LinkView) → l.of ≡ h.slot → shared h.slot ≡ false → to_right h.slot ≡ true → readers.right_link shared to_right links l ≡ true
+      goes_over h l o e t = ap (λ z. cond z (links l.link) (to_right l.of)) (ap shared o ∙ e) ∙ ap to_right o ∙ t
 
-  pub woken_joined : Woken r v j jm us
-  woken_joined = record { knows = λ h x s. knows_joined h x (where_known h x s); same = λ h x s. same_joined h x (where_known h x s) }
+      awake_left : (h : Handle) → shared h.slot ≡ false → to_right h.slot ≡ false → AwakeIn RL am us h.slot → AwakeIn r jm us h.slot
+      awake_left h e t w l g i o d c low k =
+          busy_joined am bm jm marked g.slot (inl (w l g (filter_member (λ z. not (readers.right_link shared to_right links z)) l r.links i (ap not (goes_left h l o e t))) o d c low k))
+
+      awake_right : (h : Handle) → shared h.slot ≡ false → to_right h.slot ≡ true → AwakeIn RR bm us h.slot → AwakeIn r jm us h.slot
+      awake_right h e t w l g i o d c low k =
+          busy_joined am bm jm marked g.slot (inr (w l g (filter_member (readers.right_link shared to_right links) l r.links i (goes_over h l o e t)) o d c low k))
+
+      same_joined : (h : Handle) (x : Value Handle) → Where h x → ((y : Value Handle) → Sees j h y → Sees v h y) ⊎ (Has v h × AwakeIn r jm us h.slot)
+      same_joined h x (Both one two none nor) =
+          elim (wa.same h x one) [
+            | inr q ↦ absurd (none q.0)
+            | inl f ↦
+                elim (wb.same h x two) [
+                  | inr q ↦ absurd (nor q.0)
+                  | inl g ↦ inl (from_parts h (λ y s. left_back shared to_right v h y (f y s)) (λ y s. right_back shared to_right v h y (g y s)))
+                ]
+          ]
+      same_joined h x (Left has one e t) =
+          elim (wa.same h x one) [
+            | inr q ↦ inr ((left_from shared to_right v h q.0).0, awake_left h e t q.1)
+            | inl f ↦ inl (from_parts h (λ y s. left_back shared to_right v h y (f y s)) (λ y s. left_unseen shared to_right v tidy a b j ka kb is un h y (ka.mine h has) s))
+          ]
+      same_joined h x (Right has two e t) =
+          elim (wb.same h x two) [
+            | inr q ↦ inr ((right_from shared to_right v h q.0).0, awake_right h e t q.1)
+            | inl f ↦ inl (from_parts h (λ y s. right_unseen shared to_right v tidy a b j ka kb is un h y (kb.mine h has) s) (λ y s. right_back shared to_right v h y (f y s)))
+          ]
+
+      knows_joined : (h : Handle) (x : Value Handle) → Where h x → (y : Value Handle) × Sees j h y
+      knows_joined h x (Both one two none nor) = let q = wa.knows h x one in (q.0, to_joined h q.0 (inl q.1))
+      knows_joined h x (Left has one e t) = let q = wa.knows h x one in (q.0, to_joined h q.0 (inl q.1))
+      knows_joined h x (Right has two e t) = let q = wb.knows h x two in (q.0, to_joined h q.0 (inr q.1))
+
+      pub woken_joined : Woken r v j jm us
+      woken_joined = record { knows = λ h x s. knows_joined h x (where_known h x s); same = λ h x s. same_joined h x (where_known h x s) }

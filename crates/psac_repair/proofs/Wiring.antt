@@ -1,7 +1,12 @@
 -- The laws of links along the walk.
 use Rattle.std.proofs.Common.{refl}
-use Rattle.psac_record.specs.Kept.{A, W, S, P, R}
-use Rattle.psac_repair.specs.LinkLaws.{KeptWires, LinksStay, MadeWires, WroteWires, StepsWire, TurnsWire, SidesWireUp, BlocksWire}
+use Rattle.psac_record.specs.Kept.{A, W, S, P, R, bare}
+use Rattle.psac_repair.specs.LinkLaws.{KeptWires, LinksStay, MadeWires, WroteWires, StepsWire, TurnsWire, SidesWireUp, BlocksWire, PartReads, SideReads, RecordsOrdered}
+use Rattle.psac_traced.specs.Bodies.{IsCode}
+use Rattle.psac_traced.proofs.Bodies.{code_closed}
+use Rattle.psac_repair.proofs.Along.{goes_along, reads_along}
+use Rattle.psac_repair.proofs.Unread.{unread_behind, unread_beside}
+use Rattle.psac_repair.proofs.Ordering.{sorted, ordered_by}
 use Rattle.psac_repair.proofs.Rewiring.{wired_made, wired_wrote, rewired_made, rewired_wrote, rewired_kept, rewired_as, relinks_as, relinks_of, wired_part, wired_rest, rewired_turn, relinks_turn}
 use Rattle.psac_repair.proofs.Rerunning.{wired_body, rewired_block, relinks_block, rewired_redone, readers_lead, set_stays}
 use Rattle.psac_repair.proofs.Dividing.{pair_planted, pair_wired, pair_ordered, wired_left, wired_right, rewired_joined, relinks_joined}
@@ -60,3 +65,15 @@ blocks_wire r m us above b t p w =
           let e = set_stays r m us above b t p w o q left s d in
           (e.0, e.1, readers_lead r m us above b t p w o q left y on s d);
     }
+
+pub part_reads : PartReads
+part_reads g v u t k new apart ow kept n told s i =
+    unread_behind g.setting g.funcs (IsCode g.funcs g.main) (code_closed g.funcs g.main) (goes_along g.setting g.funcs g.checked) (reads_along g.setting) g.same v u t k new apart ow kept n told s i
+
+pub side_reads : SideReads
+side_reads g v u l k new r apart tidy ol ok kept n told s i =
+    unread_beside g.setting g.funcs (IsCode g.funcs g.main) (code_closed g.funcs g.main) (goes_along g.setting g.funcs g.checked) (reads_along g.setting) g.same v u l k new r apart tidy ol ok kept n told s i
+
+pub records_ordered : RecordsOrdered
+records_ordered g v m k apart tidy own h n =
+    ordered_by v m tidy k own h (sorted g.setting g.funcs (IsCode g.funcs g.main) (code_closed g.funcs g.main) (goes_along g.setting g.funcs g.checked) (reads_along g.setting) v (bare k) apart n)

@@ -15,3 +15,5 @@ pub mod Watched
 pub mod Laws
 pub mod LinkLaws
 pub mod WatchLaws
+pub mod FitLaws
+pub mod Counted

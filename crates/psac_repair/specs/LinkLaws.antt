@@ -14,9 +14,17 @@ use Rattle.psac_record.specs.declared.parts.Reading.{Reading}
 use Rattle.psac_record.specs.Kept.{Kept, A, W, S, P, R, Stands, links_of, bare}
 use Rattle.psac_trace.specs.Fit.{Rooted}
 use Rattle.psac_trace.specs.Grown.{MoreLinks, as_link}
+use Rattle.psac_traced.specs.Rec as rec
+use Rattle.psac_traced.specs.Places.{IsApart}
+use Rattle.psac_trace.specs.Rights.{Tidy, Kept as Stays}
+use Rattle.psac_values.specs.declared.view.ValueView.{ValueView}
+use Rattle.psac_repair.specs.Ended.{Good}
+use Rattle.psac_repair.specs.Stood.{Owned}
+use Rattle.psac_repair.specs.Laws.{Program, NeedsOf, TellsOf, PartOf}
 use Rattle.psac_repair.specs.Divided.{neither, writes_slot, has_link, has_node, outside}
 use Rattle.psac_repair.specs.Planted.{slots, Planted, Passed}
 use Rattle.psac_repair.specs.Linked.{LinksOnce, Linked, Relinked}
+use Rattle.psac_repair.specs.Watched.{Watched}
 use Rattle.psac_repair.specs.Rewired.{Writes, reads_in, Unread, Ordered, Wired, Relinks, Rewired}
 
 -- a record that is kept
@@ -80,3 +88,16 @@ pub record BlockWires (r : ReadersView) (m : MarksView) (us : List ℕ) (b : Rea
 
 abbrev pub BlocksWire : Type 0
 BlocksWire = (r : ReadersView) (m : MarksView) (us : List ℕ) (above : Option Handle) (b : Reading) (t : Kept) → Planted m us above (R b t) → Wired r m us above (R b t) → BlockWires r m us b t
+
+-- what stands in place of a part reads nothing that is still to be written behind it
+abbrev pub PartReads : Type 0
+PartReads = (g : Program) (v u : ValueView) (t k new : Kept) → IsApart (rec.S (bare t) (bare k)) → Owned v (bare k) → Stays v u → NeedsOf g (rec.S (bare t) (bare k)) v → PartOf g (bare t) (bare k) v u (Good (bare new)) → Unread (links_of new) k
+
+-- and so it is with what stands in place of the left side of a par, before the right one
+abbrev pub SideReads : Type 0
+SideReads =
+    (g : Program) (v u : ValueView) (l k new : Kept) (r : rec.Rec Handle) → IsApart (rec.S (rec.P (bare l) (bare k)) r) → Tidy v → Owned v (bare l) → Owned v (bare k) → Stays v u → NeedsOf g (rec.S (rec.P (bare l) (bare k)) r) v → TellsOf g (bare l) v u (Good (bare new)) → Unread (links_of new) k
+
+-- a record that a run left, and whose reads the pass knows, is ordered
+abbrev pub RecordsOrdered : Type 0
+RecordsOrdered = (g : Program) (v : ValueView) (m : MarksView) (k : Kept) → IsApart (bare k) → Tidy v → Owned v (bare k) → Watched v m k → NeedsOf g (bare k) v → Ordered k

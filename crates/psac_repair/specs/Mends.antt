@@ -58,10 +58,11 @@ module _ (w : Setting Handle) (funcs : List Func) (Q : List Stmt → Type 0) whe
   Tells old v u e =
       (room : ℕ) (body : List Stmt) (env : Env Handle) (heap base : Heap) (st end : Standing) → Stood w funcs Q v old room body env heap base st end → Told st end.unwritten env old v u base e
 
-  -- where a part before the rest of a body is done, the rest stands somewhere, and what that tells there the whole tells
+  -- where a part before the rest of a body is done, the rest stands somewhere, over what the part wrote and the base, and what that tells there the whole
+  -- tells
   abbrev pub PartEnd : Rec Handle → Rec Handle → Standing → List ℕ → Env Handle → ValueView → ValueView → Heap → Ended → Type 0
   PartEnd part rest st left env v u base (Good new) =
-      (room : ℕ) × (body : List Stmt) × (here : Env Handle) × (heap : Heap) × (over : Heap) × (mid : Standing) × (end : Standing) × Stood w funcs Q u rest room body here heap over mid end × ((x : ValueView) (e : Ended) → Kept u x → Told mid end.unwritten here rest u x over e → Told st left env (S part rest) v x base (then_ended (S new) e))
+      (room : ℕ) × (body : List Stmt) × (here : Env Handle) × (heap : Heap) × (over : Heap) × (mid : Standing) × (end : Standing) × Stood w funcs Q u rest room body here heap over mid end × ((x : ValueView) (e : Ended) → Kept u x → Told mid end.unwritten here rest u x over e → Told st left env (S part rest) v x base (then_ended (S new) e)) × (over ≡ writes new ++ base) × Mends w funcs Q base part new Done
   PartEnd part rest st left env v u base (Fault k n) = Told st left env (S part rest) v u base (Fault k n)
   PartEnd part rest st left env v u base Other = Unit {0}
 

@@ -1,5 +1,5 @@
 -- What adds up along the walk of a repair of what blocks read and what is there now.
-use Rattle.std.specs.Prelude.{◌≡◌, ◌≢◌, ◌⊎◌, ℕ, List, [], ◌∷◌, ◌++◌, Option, Some}
+use Rattle.std.specs.Prelude.{◌≡◌, ◌≢◌, ◌⊎◌, ℕ, true, List, [], ◌∷◌, ◌++◌, Option, Some}
 use Rattle.psac_ops.specs.declared.plain.Handle.{Handle}
 use Rattle.psac_ops.specs.declared.plain.Plain.{Plain}
 use Rattle.psac_ops.specs.Value.{Value}
@@ -25,9 +25,9 @@ use Rattle.psac_repair.specs.Divided.{neither, writes_slot, has_node, outside}
 use Rattle.psac_repair.specs.Marks.{Present, Nodes}
 use Rattle.psac_repair.specs.Planted.{slots, NoneMarked, Planted, Passed}
 use Rattle.psac_repair.specs.Linked.{Relinked}
-use Rattle.psac_repair.specs.Rewired.{Ordered, Wired, Rewired}
+use Rattle.psac_repair.specs.Rewired.{Unread, Ordered, Wired, Rewired}
 use Rattle.psac_repair.specs.LinkLaws.{left_pass, right_pass}
-use Rattle.psac_repair.specs.Watched.{Watched, Woken}
+use Rattle.psac_repair.specs.Watched.{Watched, Woken, Steady}
 
 -- where no node of a record is marked it read what is present
 abbrev pub QuietReads : Type 0
@@ -66,6 +66,7 @@ pub record SidesWatch (r : ReadersView) (v : ValueView) (m : MarksView) (us : Li
   pub left : Watched v m l → Watched (left_view l k v) (marks.left_of (outside m l k) (has_node k) m) l
   pub right : Watched v m k → Watched (right_view l k v) (marks.right_of (outside m l k) (has_node k) m) k
   pub both : (a b j : ValueView) (x y z : MarksView) → Kept (left_view l k v) a → Kept (right_view l k v) b → j ≡ values.joined a b → United a b j → z ≡ marks.joined x y → Woken (left_pass l k r) (left_view l k v) a x (n.slot ∷ us) → Woken (right_pass l k r) (right_view l k v) b y (n.slot ∷ us) → Woken r v j z (n.slot ∷ us)
+  pub beside : (a b j : ValueView) → Kept (left_view l k v) a → Kept (right_view l k v) b → j ≡ values.joined a b → United a b j → Steady (left_view l k v) a l → Steady (right_view l k v) b k → Steady v j (P n l k)
 
 abbrev pub SidesWatchUp : Type 0
 SidesWatchUp = (r : ReadersView) (v : ValueView) (m : MarksView) (us : List ℕ) (above : Option Handle) (n : Handle) (l k : Tree) → Rooted m → Tidy v → Planted m us above (P n l k) → Wired r m us above (P n l k) → Ordered (P n l k) → SidesWatch r v m us n l k
@@ -80,3 +81,16 @@ pub record RunWarns (q : ReadersView) (v u : ValueView) (n : MarksView) (ws : Li
 abbrev pub RunsWake : Type 0
 RunsWake =
     (r q : ReadersView) (v u : ValueView) (m n : MarksView) (us : List ℕ) (above : Option Handle) (b : Reading) (t : Tree) (ws : List (Handle × Plain)) → Planted m us above (R b t) → Wired r m us above (R b t) → Relinked r q (links_of t) [] → RunWarns q v u n ws → Woken r v u n us
+
+-- what neither part touched keeps its words
+abbrev pub SteadyParts : Type 0
+SteadyParts = (v u x : ValueView) (n : Handle) (t k : Tree) → Steady v u t → Steady u x k → Steady v x (S n t k)
+
+-- a record that read nothing of what another one touched is watched behind it
+abbrev pub SteadyWatch : Type 0
+SteadyWatch = (v u : ValueView) (m x : MarksView) (t k : Tree) → Steady v u t → Unread (links_of k) t → ((y : ℕ) → Member y (slots k) → IsBusy m y → IsBusy x y) → Watched v m k → Watched u x k
+
+-- a run that wrote of what was known only what the old record touched
+abbrev pub SteadyRun : Type 0
+SteadyRun =
+    (v u : ValueView) (ws : List (Handle × Plain)) (k : Tree) → ((m : Handle) (ks : List ℕ) → Knows v m ks → ((x : Plain) → Member (m, x) ws → ⊥) → Knows u m ks) → ((m : Handle) (ks : List ℕ) → Knows u m ks → Knows v m ks ⊎ (((x : Plain) × Member (m, x) ws × (ks ≡ words_of x)) ⊎ Lacks v m.slot)) → ((m : Handle) (x : Plain) → Member (m, x) ws → (ks : List ℕ) → Knows v m ks → writes_slot (bare k) m.slot ≡ true) → Steady v u k

@@ -1,6 +1,6 @@
 -- What the read blocks of a record read and what is there now: what each part of a walk begins with, and what it leaves to the
 -- blocks outside.
-use Rattle.std.specs.Prelude.{◌≡◌, ◌⊎◌, ℕ, List, Some}
+use Rattle.std.specs.Prelude.{◌≡◌, ◌⊎◌, ℕ, false, List, Some}
 use Rattle.psac_ops.specs.declared.plain.Handle.{Handle}
 use Rattle.psac_ops.specs.Value.{Value}
 use Rattle.psac_slots.specs.Handles.{Member, word_of}
@@ -13,8 +13,9 @@ use Rattle.psac_marks.specs.declared.view.MarksView.{MarksView}
 use Rattle.psac_marks.specs.Passes.{IsBusy}
 use Rattle.psac_raise.specs.Raise.{IsSlot}
 use Rattle.psac_traced.specs.Holds.{EachOf}
-use Rattle.psac_record.specs.Kept.{Kept, E, A, W, S, P, R, reads_of}
+use Rattle.psac_record.specs.Kept.{Kept, E, A, W, S, P, R, reads_of, bare}
 use Rattle.psac_trace.specs.Rights.{Sees}
+use Rattle.psac_repair.specs.Divided.{writes_slot}
 use Rattle.psac_repair.specs.Seen.{Known}
 use Rattle.psac_repair.specs.Marks.{Present}
 
@@ -35,3 +36,7 @@ AwakeIn r n us s = (l : LinkView) (h : Handle) → Member l r.links → l.of ≡
 pub record Woken (r : ReadersView) (v u : ValueView) (n : MarksView) (us : List ℕ) : Type 0 where
   pub knows : (h : Handle) (x : Value Handle) → Sees v h x → (y : Value Handle) × Sees u h y
   pub same : (h : Handle) (x : Value Handle) → Sees v h x → ((y : Value Handle) → Sees u h y → Sees v h y) ⊎ (Has v h × AwakeIn r n us h.slot)
+
+-- what the record neither made nor wrote keeps its words, and the pass knows no others of it. That is so after a fault too
+abbrev pub Steady : ValueView → ValueView → Kept → Type 0
+Steady v u k = (h : Handle) (x : Value Handle) → Sees v h x → writes_slot (bare k) h.slot ≡ false → Sees u h x × ((y : Value Handle) → Sees u h y → Sees v h y)

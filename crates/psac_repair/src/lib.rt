@@ -2,8 +2,10 @@
 //! division at a par, and clearing marks on the way up.
 #![tactic(auto)]
 
+pub mod counts;
 pub mod divide;
 pub mod entry;
+pub mod fits;
 pub mod laws;
 pub mod links;
 pub mod marks;

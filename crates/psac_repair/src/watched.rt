@@ -1,5 +1,5 @@
 //! What adds up along the walk of a repair of what blocks read and what is there now. These functions have nothing to run.
-ghost use Rattle.psac_repair.specs.WatchLaws.{QuietReads, NothingWoke, LooksWake, OutsideWoke, StepsWatch, TurnsWatch, SidesWatchUp, RunsWake};
+ghost use Rattle.psac_repair.specs.WatchLaws.{QuietReads, NothingWoke, LooksWake, OutsideWoke, StepsWatch, TurnsWatch, SidesWatchUp, RunsWake, SteadyParts, SteadyWatch, SteadyRun};
 
 /// A watched record no node of which is marked read what is present.
 pub fn quiet_records_read_what_is_present()
@@ -27,4 +27,12 @@ pub fn sides_watch_on()
 /// A block that ran again and raised the readers of what it wrote with other words has woken them.
 pub fn runs_wake_readers()
     ensures { RunsWake }
+{}
+
+/// Where a part ended at a fault too: what its old record neither made nor wrote keeps its words, and a record that read none of that
+/// is watched on.
+pub fn what_is_not_touched_is_steady()
+    ensures parts { SteadyParts }
+    ensures watched { SteadyWatch }
+    ensures run { SteadyRun }
 {}
