@@ -18,7 +18,7 @@ use Rattle.psac_raise.specs.Raise.{IsSlot}
 use Rattle.psac_trace.specs.Rights.{Sees}
 use Rattle.psac_trace.specs.Raising.{AllBusy}
 use Rattle.psac_trace.proofs.Heaps.{handle_or}
-use Rattle.psac_repair.specs.Watched.{AwakeIn, Woken}
+use Rattle.psac_repair.specs.Watched.{Woken}
 
 -- lists of words are the same, or they aren't
 words_or : (us ws : List ℕ) → (us ≡ ws) ⊎ (us ≢ ws)

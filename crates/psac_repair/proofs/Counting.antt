@@ -1,21 +1,22 @@
 -- Slots, looks and asks, part by part.
-use Rattle.std.proofs.Common.{◌≡◌, ℕ, zero, suc, ◌+◌, ◌*◌, ◌≤◌, ◌<◌, List, [], ◌∷◌, ◌++◌, true, false, if◌then◌else◌, length, refl, ap, sym, ◌∙◌, subst, arith, append_assoc}
+use Rattle.std.proofs.Common.{◌≡◌, ℕ, zero, suc, ◌+◌, ◌<◌, List, [], ◌∷◌, ◌++◌, true, if◌then◌else◌, length, refl, ap, sym, ◌∙◌, arith, append_assoc}
 use Rattle.psac_ops.specs.declared.plain.Handle.{Handle}
 use Rattle.psac_ops.specs.Named.{same_handle}
 use Rattle.psac_model.specs.declared.ends.CapKind.{CapKind}
 use Rattle.psac_model.specs.declared.ends.CapKind.TheVariants as cap
-use Rattle.psac_model.specs.Fresh.{nodes_of}
 use Rattle.psac_values.specs.declared.view.ValueView.{ValueView}
 use Rattle.psac_marks.specs.declared.view.MarksView.{MarksView}
+use Rattle.psac_traced.specs.Rec as rec
+use Rattle.psac_traced.specs.Rec.{Rec}
 use Rattle.psac_traced.specs.Mending.{Mending, mended, unlike, untouched, beside, below, visits, anew}
 use Rattle.psac_traced.proofs.Kept.{kept_untouched}
 use Rattle.psac_record.specs.declared.parts.Reading.{Reading}
-use Rattle.psac_record.specs.Kept.{Kept, E, A, W, S, P, R, links_of, reads_of, bare, all_of, nodes_below}
+use Rattle.psac_record.specs.Kept.{Kept, R, links_of, reads_of, bare, all_of, nodes_below}
 use Rattle.psac_record.proofs.Listed.{nodes_listed, links_listed, made_listed}
 use Rattle.std.proofs.lemmas.List.{length-map}
 use Rattle.psac_trace.specs.Grown.{as_own}
 use Rattle.psac_trace.specs.Looks.{writes_in}
-use Rattle.psac_repair.specs.Counted.{done, drawn_for, where_any, looks_for, asks_for, Spent, DrawnKept, DrawnParts, DrawnSides, DrawnBlock, DrawnAgain, SpentKept, SpentParts, SpentTurns, SpentSides, SpentBlock, SpentAgain}
+use Rattle.psac_repair.specs.Counted.{done, drawn_for, where_any, looks_for, DrawnKept, DrawnParts, DrawnSides, DrawnStopped, DrawnBlock, DrawnAgain, SpentKept, SpentParts, SpentTurns, SpentSides, SpentBlock, SpentAgain}
 use Rattle.psac_repair.proofs.Tells.{same_test}
 use Rattle.psac_repair.proofs.Quiet.{like_itself}
 
@@ -24,13 +25,16 @@ pub all_both : {X : Type 0} (f : Kept → List X) (ks ls : List Kept) → all_of
 all_both f [] ls = refl
 all_both f (k ∷ ks) ls = ap (λ z. f k ++ z) (all_both f ks ls) ∙ sym (append_assoc (f k) (all_of f ks) (all_of f ls))
 
-none_done : (k : Kept) → done k k ≡ untouched
+pub none_done : (k : Kept) → done k k ≡ untouched
 none_done k = kept_untouched same_handle same_test (bare k)
 
+none_drawn : (c : CapKind) (d : Mending Handle) → d ≡ untouched → drawn_for c d ≡ 0
+none_drawn cap.Nodes d e = ap (drawn_for cap.Nodes) e
+none_drawn cap.Mods d e = ap (drawn_for cap.Mods) e
+none_drawn cap.Links d e = ap (drawn_for cap.Links) e
+
 pub drawn_kept : DrawnKept
-drawn_kept cap.Nodes k = ap (drawn_for cap.Nodes) (none_done k)
-drawn_kept cap.Mods k = ap (drawn_for cap.Mods) (none_done k)
-drawn_kept cap.Links k = ap (drawn_for cap.Links) (none_done k)
+drawn_kept c k = none_drawn c (done k k) (none_done k)
 
 drawn_both : (c : CapKind) (a b : Mending Handle) → drawn_for c (below (beside a b)) ≡ drawn_for c a + drawn_for c b
 drawn_both cap.Nodes a b = omega arith
@@ -38,20 +42,31 @@ drawn_both cap.Mods a b = refl
 drawn_both cap.Links a b = refl
 
 pub drawn_parts : DrawnParts
-drawn_parts c n t k u w = drawn_both c (done t u) (done k w)
+drawn_parts c t k u w = drawn_both c (mended same_handle t u) (mended same_handle k w)
 
 pub drawn_sides : DrawnSides
-drawn_sides c n l k u w = drawn_both c (done l u) (done k w)
+drawn_sides c l k u w = drawn_both c (mended same_handle l u) (mended same_handle k w)
+
+none_behind : (k : Rec Handle) → mended same_handle k rec.E ≡ untouched
+none_behind rec.E = refl
+none_behind (rec.A m r) = refl
+none_behind (rec.W m v r) = refl
+none_behind (rec.S t r) = refl
+none_behind (rec.P l r) = refl
+none_behind (rec.R room block env reads t) = refl
+
+pub drawn_stopped : DrawnStopped
+drawn_stopped c k = none_drawn c (mended same_handle k rec.E) (none_behind k)
 
 drawn_below : (c : CapKind) (a : Mending Handle) → drawn_for c (below a) ≡ drawn_for c a
 drawn_below cap.Nodes a = refl
 drawn_below cap.Mods a = refl
 drawn_below cap.Links a = refl
 
-same_block : (b : Reading) (t u : Kept) → done (R b t) (R b u) ≡ below (done t u)
+pub same_block : (b : Reading) (t u : Kept) → done (R b t) (R b u) ≡ below (done t u)
 same_block b t u = ap (λ z. if z then anew (bare t) (bare u) else below (done t u)) (like_itself (reads_of b.reads))
 
-other_block : (b d : Reading) (t u : Kept) → unlike same_handle (reads_of b.reads) (reads_of d.reads) ≡ true → done (R b t) (R d u) ≡ anew (bare t) (bare u)
+pub other_block : (b d : Reading) (t u : Kept) → unlike same_handle (reads_of b.reads) (reads_of d.reads) ≡ true → done (R b t) (R d u) ≡ anew (bare t) (bare u)
 other_block b d t u e = ap (λ z. if z then anew (bare t) (bare u) else below (done t u)) e
 
 pub drawn_block : DrawnBlock

@@ -1,17 +1,16 @@
 -- The links of both sides of a par: what each side begins with on its part of the pass, and what both leave, joined.
-use Rattle.std.proofs.Common.{◌≡◌, ◌≢◌, ◌⊎◌, ℕ, ◌+◌, ◌≤◌, ◌<◌, ◌&&◌, Bool, true, false, not, List, [], ◌∷◌, ◌++◌, map, length, Option, Some, refl, ap, sym, ◌∙◌, subst, inl, inr, ⊎_elim, arith}
-use Rattle.std.specs.Prelude.{sum_by, filter, cond, ltb}
-use Rattle.std.proofs.lemmas.List.Sums.{sum_by-append, sum_by-cons}
+use Rattle.std.proofs.Common.{◌≡◌, ℕ, ◌+◌, ◌<◌, ◌&&◌, Bool, true, false, not, List, ◌∷◌, ◌++◌, map, length, Option, Some, refl, ap, sym, ◌∙◌, subst, inl, inr, ⊎_elim, arith}
+use Rattle.std.specs.Prelude.{sum_by, filter, ltb}
+use Rattle.std.proofs.lemmas.List.Sums.{sum_by-append}
 use Rattle.std.proofs.lemmas.List.Filters.{sum_by-filter_both}
 use Rattle.psac_ops.specs.declared.plain.Handle.{Handle}
 use Rattle.psac_slots.specs.Branches.{stem}
-use Rattle.psac_slots.specs.Handles.{Member, word_of}
+use Rattle.psac_slots.specs.Handles.{Member}
 use Rattle.psac_slots.specs.Claiming.{times}
 use Rattle.psac_slots.specs.Divided.{stays, goes, lends, told, above as above_label, comes_back}
-use Rattle.psac_slots.proofs.Pairs.{member_left, member_right, member_cases, map_member, member_map, member_filter, filter_member}
+use Rattle.psac_slots.proofs.Pairs.{member_left, member_right, member_cases, map_member, member_filter, filter_member}
 use Rattle.psac_slots.proofs.Turns.{stem_push}
 use Rattle.psac_laws.proofs.Places.{test_or, not_both}
-use Rattle.psac_readers.specs.declared.view.Stage.TheVariants.{In}
 use Rattle.psac_readers.specs.declared.view.LinkView.{LinkView}
 use Rattle.psac_readers.specs.declared.view.SharedView.{SharedView as SetView}
 use Rattle.psac_readers.specs.declared.view.ReadersView.{ReadersView}
@@ -32,11 +31,11 @@ use Rattle.psac_record.specs.Kept.{Kept, S, P, Stands, links_of, bare}
 use Rattle.psac_trace.specs.Fit.{Rooted}
 use Rattle.psac_trace.proofs.Sums.{joined_sum, above_is}
 use Rattle.psac_trace.proofs.Joining.{mods_filter, mods_append, mods_unknown}
-use Rattle.psac_repair.specs.Divided.{writes_slot, neither, has_link, has_node, outside}
+use Rattle.psac_repair.specs.Divided.{writes_slot, neither, has_link}
 use Rattle.psac_repair.specs.Taken.{indexes}
 use Rattle.psac_repair.specs.Planted.{slots, Planted}
-use Rattle.psac_repair.specs.Linked.{standing, left_link, Distinct, LinksOnce, Linked, Relinked}
-use Rattle.psac_repair.specs.Rewired.{Writes, Unread, Ordered, NodeIn, Wired, Relinks, Rewired}
+use Rattle.psac_repair.specs.Linked.{standing, left_link, Distinct, LinksOnce, Relinked}
+use Rattle.psac_repair.specs.Rewired.{Writes, Ordered, NodeIn, Wired, Relinks, Rewired}
 use Rattle.psac_repair.proofs.Leaving.{indexes_append}
 use Rattle.psac_repair.proofs.Linking.{distinct_front, distinct_back, distinct_apart}
 use Rattle.psac_repair.proofs.Passing.{node_at}

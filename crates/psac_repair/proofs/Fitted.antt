@@ -1,6 +1,4 @@
 -- The laws of what holds of a pass between two calls.
-use Rattle.std.proofs.Common.{◌++◌}
-use Rattle.psac_repair.specs.Planted.{slots}
 use Rattle.psac_repair.specs.FitLaws.{SetsFit, NodesFit}
 use Rattle.psac_repair.proofs.Meeting.{passed_joined}
 use Rattle.psac_repair.proofs.Readying.{ready_left, ready_right, ready_joined}

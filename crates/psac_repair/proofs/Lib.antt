@@ -23,6 +23,7 @@ pub mod Dividing
 pub mod Unread
 pub mod Ordering
 pub mod Counting
+pub mod Exchanging
 pub mod Wiring
 pub mod Watching
 pub mod Waking

@@ -1,25 +1,22 @@
 -- A record reads nothing before it is written, nor beside what writes it.
-use Rattle.std.proofs.Common.{◌≡◌, ◌≢◌, ◌⊎◌, ℕ, true, false, List, [], ◌∷◌, ◌++◌, map, Some, None, Ok, refl, ap, sym, ◌∙◌, subst, inl, inr, ⊎_elim, append_assoc}
+use Rattle.std.proofs.Common.{◌≡◌, ◌⊎◌, ℕ, true, false, List, [], ◌∷◌, ◌++◌, map, None, refl, ap, sym, ◌∙◌, subst, inl, inr, ⊎_elim, append_assoc}
 use Rattle.psac_ops.specs.declared.plain.Handle.{Handle}
 use Rattle.psac_ops.specs.Value.{Value}
 use Rattle.psac_ops.specs.Named.{same_handle}
 use Rattle.psac_syntax.specs.declared.program.Stmt.{Stmt}
 use Rattle.psac_syntax.specs.declared.program.Func.{Func}
 use Rattle.psac_slots.specs.Handles.{Member}
-use Rattle.psac_slots.proofs.Pairs.{member_left, member_right, member_cases}
+use Rattle.psac_slots.proofs.Pairs.{member_cases}
 use Rattle.psac_values.specs.declared.view.ValueView.{ValueView}
-use Rattle.psac_values.specs.Knowing.{Has}
 use Rattle.psac_marks.specs.declared.view.MarksView.{MarksView}
 use Rattle.psac_model.specs.declared.ends.End.TheVariants.{Done}
 use Rattle.psac_model.specs.Names.{Env}
 use Rattle.psac_model.specs.Tree.{Reads}
-use Rattle.psac_model.specs.Expression.{Setting, in_order}
-use Rattle.psac_model.specs.Run.{with_reads, read_of}
+use Rattle.psac_model.specs.Expression.{Setting}
+use Rattle.psac_model.specs.Run.{with_reads}
 use Rattle.psac_laws.specs.Standing.{Standing, in_both}
 use Rattle.psac_laws.proofs.Places.{not_true, none_some}
-use Rattle.psac_traced.specs.Rec as rec
-use Rattle.psac_traced.specs.Rec.{Rec, E, A, W, S, P, R, writes, held_by}
-use Rattle.psac_traced.specs.Traced.{listed}
+use Rattle.psac_traced.specs.Rec.{Rec, E, A, W, S, P, R, writes}
 use Rattle.psac_traced.specs.Holds.{EachOf, Sees as SeesIn}
 use Rattle.psac_traced.specs.Places.{Makes, IsApart}
 use Rattle.psac_traced.specs.Parts.{IsClosed, IsBody}
@@ -33,10 +30,10 @@ use Rattle.psac_trace.proofs.Heaps.{handle_or, in_either, in_front, in_back, not
 use Rattle.psac_trace.proofs.Raised.{slots_apart}
 use Rattle.psac_repair.specs.Scope.{Scope, GoesAlong, ReadsAlong, Fills}
 use Rattle.psac_repair.specs.Seen.{Known}
-use Rattle.psac_repair.specs.Stood.{Stood, Owned}
+use Rattle.psac_repair.specs.Stood.{Owned}
 use Rattle.psac_repair.specs.Mends.{Needs}
 use Rattle.psac_repair.specs.Divided.{writes_slot}
-use Rattle.psac_repair.specs.Rewired.{Unread, Ordered}
+use Rattle.psac_repair.specs.Rewired.{Ordered}
 use Rattle.psac_repair.specs.Watched.{Watched}
 use Rattle.psac_repair.proofs.Fills.{fills_more, fills_second, scope_left, scope_right, scope_second, targets_apart, target_left, target_right}
 use Rattle.psac_repair.proofs.Before.{Always, Left, AtPair, at_made, at_wrote, at_inner, at_reader, at_pair, no_pair, no_block, part_target, filled, seq_scope, seq_fills, rest_unmade, wrote_fills}

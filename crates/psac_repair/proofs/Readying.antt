@@ -1,24 +1,21 @@
 -- The sets and nodes of a pass between two calls, on both sides of a par and after the join.
-use Rattle.std.proofs.Common.{◌≡◌, ◌⊎◌, ℕ, ◌+◌, ◌<◌, ◌==◌, ◌||◌, ◌&&◌, Bool, true, false, not, List, [], ◌∷◌, ◌++◌, map, length, Option, Some, refl, ap, sym, ◌∙◌, subst, inl, inr, ⊎_elim, arith, length-append}
+use Rattle.std.proofs.Common.{◌≡◌, ℕ, ◌||◌, ◌&&◌, Bool, true, false, not, List, [], ◌∷◌, ◌++◌, map, refl, ap, sym, ◌∙◌, subst, inl, inr, ⊎_elim}
 use Rattle.std.specs.Prelude.{filter}
-use Rattle.psac_ops.specs.declared.plain.Handle.{Handle}
 use Rattle.psac_slots.specs.Branches.{stem}
 use Rattle.psac_slots.specs.Handles.{Member}
-use Rattle.psac_slots.specs.Claiming.{times}
-use Rattle.psac_slots.specs.Divided.{stays, goes, lends, told}
-use Rattle.psac_slots.proofs.Pairs.{member_left, member_right, member_cases, member_map, map_member, member_filter, filter_member}
+use Rattle.psac_slots.specs.Divided.{stays, goes}
 use Rattle.psac_slots.proofs.Turns.{stem_push}
-use Rattle.psac_laws.proofs.Places.{test_or, not_true, not_both, and_is, nat_is}
+use Rattle.psac_laws.proofs.Places.{test_or, not_true, not_both}
 use Rattle.psac_values.specs.declared.view.ValueView.{ValueView}
 use Rattle.psac_values.specs.Steps as values
 use Rattle.psac_readers.specs.declared.view.ReadersView.{ReadersView}
 use Rattle.psac_readers.specs.Chained as readers_rule
 use Rattle.psac_readers.specs.Chained.{mods_of}
 use Rattle.psac_readers.specs.Steps as readers
-use Rattle.psac_record.specs.Kept.{Kept as Tree, P, Stands, bare}
+use Rattle.psac_record.specs.Kept.{Kept as Tree, Stands, bare}
 use Rattle.psac_trace.specs.Rights.{Kept}
 use Rattle.psac_trace.specs.Fit.{SetsReady, is_spare}
-use Rattle.psac_trace.proofs.Fitting.{spare_is, sets_links, sets_left, sets_right, sets_joined}
+use Rattle.psac_trace.proofs.Fitting.{sets_links, sets_left, sets_right, sets_joined}
 use Rattle.psac_trace.proofs.Joining.{mods_filter}
 use Rattle.psac_repair.specs.Divided.{neither, writes_slot, has_link}
 use Rattle.psac_repair.specs.Linked.{Relinked}

@@ -1,6 +1,6 @@
 -- The links of a read block that is gone into, or run again.
-use Rattle.std.proofs.Common.{◌≡◌, ◌≢◌, ◌⊎◌, ◌==◌, ℕ, zero, suc, ◌+◌, ◌≤◌, ◌<◌, Bool, true, false, List, [], ◌∷◌, ◌++◌, map, cond, Option, Some, None, refl, ap, sym, ◌∙◌, subst, inl, inr, ⊎_elim, arith}
-use Rattle.std.specs.Prelude.{sum_by, IfSome}
+use Rattle.std.proofs.Common.{◌≡◌, ◌==◌, ℕ, ◌+◌, ◌≤◌, ◌<◌, Bool, true, false, List, [], ◌∷◌, ◌++◌, cond, Option, Some, refl, ap, sym, ◌∙◌, subst, inl, inr, ⊎_elim, arith}
+use Rattle.std.specs.Prelude.{sum_by}
 use Rattle.std.proofs.lemmas.List.{append-nil}
 use Rattle.std.proofs.lemmas.List.Sums.{sum_by-append, sum_by-cons}
 use Rattle.psac_ops.specs.declared.plain.Handle.{Handle}
@@ -15,17 +15,17 @@ use Rattle.psac_readers.specs.Chained.{named, is_live, mods_of}
 use Rattle.psac_marks.specs.declared.view.MarksView.{MarksView}
 use Rattle.psac_raise.specs.Raise.{IsSlot, LeadsIn, LeadUpIn}
 use Rattle.psac_record.specs.declared.parts.Reading.{Reading}
-use Rattle.psac_record.specs.Kept.{Kept, R, Stands, stands, links_of, bare}
+use Rattle.psac_record.specs.Kept.{Kept, R, Stands, links_of, bare}
 use Rattle.psac_trace.specs.Grown.{MoreLinks, as_link}
 use Rattle.psac_trace.proofs.Leading.{sum_member, zero_or}
 use Rattle.psac_repair.specs.Divided.{writes_slot}
 use Rattle.psac_repair.specs.Taken.{indexes}
-use Rattle.psac_repair.specs.Planted.{slots, Planted}
+use Rattle.psac_repair.specs.Planted.{Planted}
 use Rattle.psac_repair.specs.Linked.{standing, left_link, Distinct, LinksOnce, Linked, Relinked}
 use Rattle.psac_repair.specs.Rewired.{Writes, reads_in, Ordered, NodeIn, Wired, Relinks, Rewired}
 use Rattle.psac_repair.proofs.Leaving.{indexes_append}
 use Rattle.psac_repair.proofs.Linking.{member_sum, named_here, relinked_then, distinct_front, distinct_back, distinct_apart}
-use Rattle.psac_repair.proofs.Rewiring.{same_node, node_same, node_is, same_link, dead_none, like, like_here, like_is, link_back, index_sum, named_more, live_sum, distinct_both, index_cases, index_right, reads_node, walk_stays, wrote_slot, led_node, led_wider, above_wider, node_wider}
+use Rattle.psac_repair.proofs.Rewiring.{same_node, node_same, node_is, same_link, dead_none, like, like_here, link_back, index_sum, named_more, distinct_both, index_cases, index_right, reads_node, walk_stays, wrote_slot, led_node, led_wider, above_wider, node_wider}
 
 -- a block, round its body
 module _ (r : ReadersView) (m : MarksView) (us : List ℕ) (above : Option Handle) (b : Reading) (t : Kept) (p : Planted m us above (R b t)) (w : Wired r m us above (R b t)) where

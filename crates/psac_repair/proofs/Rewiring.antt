@@ -1,5 +1,5 @@
 -- Links part by part: what a part begins with, and what both parts leave.
-use Rattle.std.proofs.Common.{◌≡◌, ◌≢◌, ◌⊎◌, ◌==◌, ℕ, zero, suc, ◌+◌, ◌≤◌, ◌<◌, Bool, true, false, List, [], ◌∷◌, ◌++◌, map, cond, Option, Some, None, refl, ap, sym, ◌∙◌, subst, inl, inr, ⊎_elim, arith}
+use Rattle.std.proofs.Common.{◌≡◌, ◌⊎◌, ◌==◌, ℕ, ◌+◌, ◌≤◌, ◌<◌, Bool, true, false, List, [], ◌∷◌, ◌++◌, map, cond, Option, Some, None, refl, ap, sym, ◌∙◌, subst, inl, inr, ⊎_elim, arith}
 use Rattle.std.specs.Prelude.{sum_by, IfSome}
 use Rattle.std.proofs.lemmas.List.Sums.{sum_by-append, sum_by-cons}
 use Rattle.psac_ops.specs.declared.plain.Handle.{Handle}
@@ -16,10 +16,9 @@ use Rattle.psac_marks.specs.declared.view.MarksView.{MarksView}
 use Rattle.psac_marks.specs.declared.view.OwnView.{OwnView}
 use Rattle.psac_marks.specs.declared.view.SharedView.{SharedView}
 use Rattle.psac_marks.specs.Marked.{Place, places, own_place, shared_place}
-use Rattle.psac_marks.specs.Passes.{IsKept, IsBusy, Leads, slot_of}
+use Rattle.psac_marks.specs.Passes.{IsKept, IsBusy, Leads}
 use Rattle.psac_marks.proofs.Parts.{place_own, place_shared, place_cases}
-use Rattle.psac_raise.specs.Raise.{IsSlot, LeadsIn, LeadUpIn}
-use Rattle.psac_record.specs.declared.parts.Reading.{Reading}
+use Rattle.psac_raise.specs.Raise.{LeadsIn}
 use Rattle.psac_record.specs.declared.parts.Seen.{Seen}
 use Rattle.psac_record.specs.Kept.{Kept, E, A, W, S, P, R, Stands, stands, links_of, bare}
 use Rattle.psac_traced.specs.Rec.{writes}
@@ -30,9 +29,9 @@ use Rattle.psac_trace.proofs.Raised.{puts_in}
 use Rattle.psac_repair.specs.Divided.{writes_slot}
 use Rattle.psac_repair.specs.Marks.{Sits, Nodes}
 use Rattle.psac_repair.specs.Taken.{indexes}
-use Rattle.psac_repair.specs.Planted.{slots, Apart, Planted, Passed}
+use Rattle.psac_repair.specs.Planted.{slots, Planted, Passed}
 use Rattle.psac_repair.specs.Linked.{standing, left_link, Distinct, LinksOnce, Linked, Relinked}
-use Rattle.psac_repair.specs.Rewired.{Writes, reads_in, Unread, Ordered, NodeIn, Wired, Relinks, Rewired}
+use Rattle.psac_repair.specs.Rewired.{Writes, Unread, Ordered, NodeIn, Wired, Relinks, Rewired}
 use Rattle.psac_repair.proofs.Leaving.{indexes_append}
 use Rattle.psac_repair.proofs.Linking.{member_sum, named_here, relinked_none, relinked_then, distinct_front, distinct_back, distinct_apart}
 use Rattle.psac_repair.proofs.Passing.{kept_on}

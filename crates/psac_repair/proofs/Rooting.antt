@@ -1,5 +1,5 @@
 -- The nodes of a pass between two calls, on both sides of a par and after the join.
-use Rattle.std.proofs.Common.{◌≡◌, ◌⊎◌, ℕ, ◌+◌, ◌<◌, ◌==◌, ◌&&◌, Bool, true, false, not, List, [], ◌∷◌, ◌++◌, map, length, Option, Some, refl, ap, sym, ◌∙◌, subst, inl, inr, ⊎_elim, arith, length-append}
+use Rattle.std.proofs.Common.{◌≡◌, ℕ, ◌+◌, ◌<◌, ◌==◌, Bool, true, false, not, List, [], ◌∷◌, ◌++◌, map, length, Option, Some, refl, ap, sym, ◌∙◌, subst, inl, inr, ⊎_elim, arith, length-append}
 use Rattle.std.specs.Prelude.{filter}
 use Rattle.psac_ops.specs.declared.plain.Handle.{Handle}
 use Rattle.psac_slots.specs.Branches.{stem}
@@ -21,7 +21,7 @@ use Rattle.psac_record.specs.Kept.{Kept, P}
 use Rattle.psac_trace.specs.Fit.{Rooted}
 use Rattle.psac_trace.proofs.Sums.{back_is}
 use Rattle.psac_repair.specs.Planted.{slots, Planted, Passed}
-use Rattle.psac_repair.proofs.Passing.{in_or_out, Here, node_at, lacks_not, kept_on, kept_back, has_on}
+use Rattle.psac_repair.proofs.Passing.{in_or_out, node_at, lacks_not, kept_on, kept_back, has_on}
 use Rattle.psac_repair.proofs.Parting.{is_in, in_is, filter_some, child_in, Sh, Ri, L, K, apart_sides, left_not_shared, right_not_shared, dropped_not_shared, outside_shared, over_right, right_over, right_own, stays_left, goes_right, shared_has, left_kept, right_kept, left_kept_back, right_kept_back, beside}
 
 not_is : (b : Bool) → not b ≡ true → b ≡ false

@@ -1,13 +1,11 @@
 -- What a new record reads that came of an old one: what it wrote before, or what the base has. So it reads nothing that is still to
 -- be written behind it.
-use Rattle.std.proofs.Common.{◌≡◌, ◌≢◌, ◌⊎◌, ℕ, true, false, List, [], ◌∷◌, ◌++◌, Some, None, refl, ap, sym, ◌∙◌, subst, inl, inr, ⊎_elim}
+use Rattle.std.proofs.Common.{◌≡◌, ℕ, false, List, ◌∷◌, ◌++◌, None, ap, sym, ◌∙◌, subst, inl, inr, ⊎_elim}
 use Rattle.psac_ops.specs.declared.plain.Handle.{Handle}
 use Rattle.psac_ops.specs.Value.{Value}
 use Rattle.psac_ops.specs.Named.{same_handle}
 use Rattle.psac_syntax.specs.declared.program.Stmt.{Stmt}
 use Rattle.psac_syntax.specs.declared.program.Func.{Func}
-use Rattle.psac_slots.specs.Handles.{Member}
-use Rattle.psac_slots.proofs.Pairs.{member_left, member_right, member_cases}
 use Rattle.psac_values.specs.declared.view.ValueView.{ValueView}
 use Rattle.psac_model.specs.declared.ends.End.{End}
 use Rattle.psac_model.specs.declared.ends.End.TheVariants.{Done, Stop}
@@ -25,7 +23,7 @@ use Rattle.psac_traced.specs.Mended.{Mended, Behind}
 use Rattle.psac_traced.proofs.Holds.{traced_holds}
 use Rattle.psac_record.specs.Kept.{Kept as Tree, Stands, links_of, bare}
 use Rattle.psac_values.specs.Knowing.{Has}
-use Rattle.psac_trace.specs.Rights.{Heap, held, In, Wider, Sees, Target, Tidy, Kept}
+use Rattle.psac_trace.specs.Rights.{Heap, held, In, Target, Tidy, Kept}
 use Rattle.psac_trace.proofs.Heaps.{handle_or, in_either}
 use Rattle.psac_trace.proofs.Raised.{links_in, slots_apart}
 use Rattle.psac_repair.specs.Scope.{Scope, GoesAlong, ReadsAlong, Fills}

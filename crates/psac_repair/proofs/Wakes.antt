@@ -1,5 +1,5 @@
 -- The laws of what blocks read and what is there now.
-use Rattle.std.proofs.Common.{◌≡◌, ℕ, Bool, true, false, not, ◌&&◌, List, [], ◌∷◌, ◌++◌, map, ap, sym, ◌∙◌, subst, refl, inl, inr}
+use Rattle.std.proofs.Common.{◌≡◌, ℕ, Bool, true, false, not, ◌&&◌, [], ◌∷◌, ◌++◌, map, ap, sym, ◌∙◌, refl, inl, inr}
 use Rattle.std.specs.Prelude.{ltb}
 use Rattle.psac_ops.specs.declared.plain.Handle.{Handle}
 use Rattle.psac_ops.specs.declared.plain.Plain.{Plain}
@@ -7,17 +7,12 @@ use Rattle.psac_slots.specs.Handles.{Member}
 use Rattle.psac_slots.specs.Claiming.{times}
 use Rattle.psac_slots.proofs.Pairs.{member_left, member_right}
 use Rattle.psac_laws.proofs.Places.{not_both}
-use Rattle.psac_values.specs.declared.view.ValueView.{ValueView}
-use Rattle.psac_readers.specs.declared.view.ReadersView.{ReadersView}
-use Rattle.psac_marks.specs.declared.view.MarksView.{MarksView}
 use Rattle.psac_marks.specs.Marked as marks_rule
-use Rattle.psac_record.specs.Kept.{Kept as Tree, S, P, R, links_of, bare}
+use Rattle.psac_record.specs.Kept.{Kept as Tree, P, links_of, bare}
 use Rattle.psac_trace.proofs.Forks.{left_sees, right_sees}
 use Rattle.psac_repair.specs.Divided.{neither, writes_slot, has_link}
-use Rattle.psac_repair.specs.Planted.{slots, Planted}
-use Rattle.psac_repair.specs.Linked.{Linked}
-use Rattle.psac_repair.specs.Rewired.{Wired}
-use Rattle.psac_repair.specs.WatchLaws.{left_view, right_view, QuietReads, NothingWoke, LooksWake, OutsideWoke, PartsWatch, StepsWatch, TurnsWatch, SidesWatchUp, RunsWake, SteadyParts, SteadyWatch, SteadyRun}
+use Rattle.psac_repair.specs.Planted.{slots}
+use Rattle.psac_repair.specs.WatchLaws.{left_view, right_view, QuietReads, NothingWoke, LooksWake, OutsideWoke, StepsWatch, TurnsWatch, SidesWatchUp, RunsWake, SteadyParts, SteadyWatch, SteadyRun}
 use Rattle.psac_repair.proofs.Linking.{linked_part}
 use Rattle.psac_repair.proofs.Rewiring.{free_first, free_second}
 use Rattle.psac_repair.proofs.Parting.{is_in, Sh, L, K}

@@ -1,11 +1,10 @@
 -- What both sides of a par read and what is there, on their parts of the pass, and what both leave to the blocks outside.
-use Rattle.std.proofs.Common.{◌≡◌, ◌⊎◌, ℕ, ◌+◌, ◌<◌, ◌&&◌, Bool, true, false, not, List, [], ◌∷◌, ◌++◌, map, Option, Some, refl, ap, sym, ◌∙◌, subst, inl, inr, ⊎_elim, arith}
-use Rattle.std.specs.Prelude.{filter, cond, ltb}
+use Rattle.std.proofs.Common.{◌≡◌, ◌⊎◌, ℕ, Bool, true, false, not, List, [], ◌∷◌, ◌++◌, map, refl, ap, ◌∙◌, subst, inl, inr, ⊎_elim}
+use Rattle.std.specs.Prelude.{filter, cond}
 use Rattle.psac_ops.specs.declared.plain.Handle.{Handle}
 use Rattle.psac_ops.specs.Value.{Value}
 use Rattle.psac_slots.specs.Branches.{stem}
-use Rattle.psac_slots.specs.Handles.{Member, word_of}
-use Rattle.psac_slots.specs.Claiming.{times}
+use Rattle.psac_slots.specs.Handles.{Member}
 use Rattle.psac_slots.specs.Divided.{stays, goes, comes_back, above}
 use Rattle.psac_slots.proofs.Pairs.{member_left, member_right, member_cases, member_map, member_filter, filter_member}
 use Rattle.psac_laws.proofs.Places.{test_or, not_both}
@@ -15,14 +14,12 @@ use Rattle.psac_values.specs.declared.view.ValueView.{ValueView}
 use Rattle.psac_values.specs.Valued.{ways}
 use Rattle.psac_values.specs.Steps as values
 use Rattle.psac_values.specs.Knowing.{Has, Knows, all_words, United}
-use Rattle.psac_readers.specs.declared.view.Stage.TheVariants.{In}
 use Rattle.psac_readers.specs.declared.view.LinkView.{LinkView}
 use Rattle.psac_readers.specs.declared.view.ReadersView.{ReadersView}
 use Rattle.psac_readers.specs.Steps as readers
 use Rattle.psac_marks.specs.declared.view.MarksView.{MarksView}
 use Rattle.psac_marks.specs.Steps as marks
 use Rattle.psac_marks.specs.Passes.{IsBusy}
-use Rattle.psac_raise.specs.Raise.{IsSlot}
 use Rattle.psac_traced.specs.Holds.{EachOf}
 use Rattle.psac_record.specs.declared.parts.Seen.{Seen}
 use Rattle.psac_record.specs.Kept.{Kept as Tree, E, A, W, S, P, R, Stands, stands, links_of, reads_of}

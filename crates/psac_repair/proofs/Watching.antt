@@ -1,18 +1,17 @@
 -- What the blocks of a record read and what is there now, part by part.
-use Rattle.std.proofs.Common.{◌≡◌, ◌⊎◌, ℕ, ◌+◌, ◌≤◌, ◌<◌, List, [], ◌∷◌, ◌++◌, map, cond, Option, Some, refl, ap, sym, ◌∙◌, subst, inl, inr, ⊎_elim, arith}
+use Rattle.std.proofs.Common.{◌≡◌, ◌⊎◌, ℕ, ◌≤◌, ◌<◌, List, [], ◌∷◌, map, cond, Option, Some, refl, ap, sym, ◌∙◌, subst, inl, inr, ⊎_elim, arith}
 use Rattle.std.specs.Prelude.{sum_by}
 use Rattle.std.proofs.lemmas.List.Sums.{sum_by-cons}
 use Rattle.psac_ops.specs.declared.plain.Handle.{Handle}
 use Rattle.psac_ops.specs.Value.{Value}
 use Rattle.psac_slots.specs.Handles.{Member, word_of}
 use Rattle.psac_slots.specs.Claiming.{times}
-use Rattle.psac_slots.proofs.Pairs.{member_left, member_right, member_cases, member_map}
+use Rattle.psac_slots.proofs.Pairs.{member_left, member_right, member_map}
 use Rattle.psac_laws.proofs.Places.{nat_same, some_is}
 use Rattle.psac_values.specs.declared.view.OwnedView.{OwnedView}
 use Rattle.psac_values.specs.declared.view.KnownView.{KnownView}
 use Rattle.psac_values.specs.declared.view.ValueView.{ValueView}
 use Rattle.psac_values.specs.Knowing.{Has, all_words}
-use Rattle.psac_readers.specs.declared.view.Stage.TheVariants.{In}
 use Rattle.psac_readers.specs.declared.view.LinkView.{LinkView}
 use Rattle.psac_readers.specs.declared.view.ReadersView.{ReadersView}
 use Rattle.psac_readers.specs.Chained.{named}
@@ -31,9 +30,9 @@ use Rattle.psac_repair.specs.Marks.{Present, Nodes}
 use Rattle.psac_repair.specs.Taken.{indexes}
 use Rattle.psac_repair.specs.Planted.{slots, NoneMarked}
 use Rattle.psac_repair.specs.Linked.{standing, LinksOnce, Linked, Relinked}
-use Rattle.psac_repair.specs.Watched.{Watched, AwakeIn, Woken}
+use Rattle.psac_repair.specs.Watched.{Watched, Woken}
 use Rattle.psac_repair.proofs.Linking.{member_sum}
-use Rattle.psac_repair.proofs.Passing.{Here, node_at}
+use Rattle.psac_repair.proofs.Passing.{node_at}
 use Rattle.psac_repair.proofs.Rewiring.{node_in}
 
 -- what the pass has afterwards and knew before, it had before

@@ -1,6 +1,6 @@
 -- The laws of links along the walk.
 use Rattle.std.proofs.Common.{refl}
-use Rattle.psac_record.specs.Kept.{A, W, S, P, R, bare}
+use Rattle.psac_record.specs.Kept.{A, W, S, P, bare}
 use Rattle.psac_repair.specs.LinkLaws.{KeptWires, LinksStay, MadeWires, WroteWires, StepsWire, TurnsWire, SidesWireUp, BlocksWire, PartReads, SideReads, RecordsOrdered}
 use Rattle.psac_traced.specs.Bodies.{IsCode}
 use Rattle.psac_traced.proofs.Bodies.{code_closed}

@@ -1,7 +1,6 @@
 -- How many slots a repair drew, and how often it looked at words and asked for marks.
 use Rattle.std.specs.Prelude.{◌≡◌, ℕ, zero, suc, ◌+◌, ◌*◌, ◌≤◌, ◌<◌, true, if◌then◌else◌, length, Option}
 use Rattle.psac_ops.specs.declared.plain.Handle.{Handle}
-use Rattle.psac_ops.specs.declared.plain.Plain.{Plain}
 use Rattle.psac_ops.specs.Named.{same_handle}
 use Rattle.psac_values.specs.declared.view.ValueView.{ValueView}
 use Rattle.psac_values.specs.Steps as values
@@ -10,6 +9,8 @@ use Rattle.psac_marks.specs.Steps as marks
 use Rattle.psac_model.specs.declared.ends.CapKind.{CapKind}
 use Rattle.psac_model.specs.declared.ends.CapKind.TheVariants as cap
 use Rattle.psac_model.specs.Fresh.{nodes_of}
+use Rattle.psac_traced.specs.Rec as rec
+use Rattle.psac_traced.specs.Rec.{Rec}
 use Rattle.psac_traced.specs.Mending.{Mending, mended, unlike}
 use Rattle.psac_record.specs.declared.parts.Reading.{Reading}
 use Rattle.psac_record.specs.Kept.{Kept, A, W, S, P, R, links_of, reads_of, bare}
@@ -57,10 +58,16 @@ abbrev pub DrawnKept : Type 0
 DrawnKept = (c : CapKind) (k : Kept) → drawn_for c (done k k) ≡ 0
 
 abbrev pub DrawnParts : Type 0
-DrawnParts = (c : CapKind) (n : Handle) (t k u w : Kept) → drawn_for c (done (S n t k) (S n u w)) ≡ drawn_for c (done t u) + drawn_for c (done k w)
+DrawnParts =
+    (c : CapKind) (t k u w : Rec Handle) → drawn_for c (mended same_handle (rec.S t k) (rec.S u w)) ≡ drawn_for c (mended same_handle t u) + drawn_for c (mended same_handle k w)
 
 abbrev pub DrawnSides : Type 0
-DrawnSides = (c : CapKind) (n : Handle) (l k u w : Kept) → drawn_for c (done (P n l k) (P n u w)) ≡ drawn_for c (done l u) + drawn_for c (done k w)
+DrawnSides =
+    (c : CapKind) (l k u w : Rec Handle) → drawn_for c (mended same_handle (rec.P l k) (rec.P u w)) ≡ drawn_for c (mended same_handle l u) + drawn_for c (mended same_handle k w)
+
+-- behind a fault there is no record
+abbrev pub DrawnStopped : Type 0
+DrawnStopped = (c : CapKind) (k : Rec Handle) → drawn_for c (mended same_handle k rec.E) ≡ 0
 
 abbrev pub DrawnBlock : Type 0
 DrawnBlock = (c : CapKind) (b : Reading) (t u : Kept) → drawn_for c (done (R b t) (R b u)) ≡ drawn_for c (done t u)

@@ -17,3 +17,4 @@ pub mod LinkLaws
 pub mod WatchLaws
 pub mod FitLaws
 pub mod Counted
+pub mod Exchanged

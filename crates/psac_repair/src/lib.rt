@@ -10,6 +10,7 @@ pub mod laws;
 pub mod links;
 pub mod marks;
 pub mod present;
+pub mod sums;
 pub mod take;
 pub mod tally;
 pub mod watched;
