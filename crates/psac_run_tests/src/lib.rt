@@ -6,6 +6,8 @@ mod case;
 #[cfg(test)]
 mod opening;
 #[cfg(test)]
+mod outside;
+#[cfg(test)]
 mod plain_runs;
 #[cfg(test)]
 mod programs;
@@ -21,3 +23,5 @@ mod session_full;
 mod session_outside;
 #[cfg(test)]
 mod session_replies;
+#[cfg(test)]
+mod tight;

@@ -25,11 +25,11 @@ pub struct Opening<'a> {
     pub workers: u32,
 }
 
-/// The caps of a command line without options.
+/// Caps that most runs keep within. Small ones make an engine's tables quickly.
 pub const CAPS: Caps = Caps {
-    nodes: 262_144,
-    mods: 131_072,
-    links: 262_144,
+    nodes: 400,
+    mods: 100,
+    links: 100,
 };
 
 fn widened(grid: Grid, room: u32) -> Result<Grid, Fail> {

@@ -30,3 +30,23 @@ pub const DEEP: &str =
 /// A program that is one deeper.
 pub const DEEPER: &str =
     "func main(; out) { call f(0; out); }\nfunc f(n; d) {\n  if n == 149 {\n    let k = n;\n    write d = k;\n  } else { call f(n + 1; d); }\n}\n";
+
+/// A tenth of the first cell, through a reference to a modifiable that the first block makes.
+pub const INNER: &str =
+    "func main(; out) {\n  new p;\n  read cell(0, 0) as x {\n    new q;\n    write q = x / 10;\n    write p = q;\n  }\n  read p as r {\n    read r as y { write out = y; }\n  }\n}\n";
+
+/// Ten divided by each of the first two cells, on either side of a `par`, in lines 3 and 5. Its outputs are `a` and `b`.
+pub const QUOTIENTS: &str =
+    "func main(; a, b) {\n  par {\n    read cell(0, 0) as x { write a = 10 / x; }\n  } {\n    read cell(1, 0) as y { write b = 10 / y; }\n  }\n}\n";
+
+/// A read of the first cell, and its write at the last level.
+pub const DEEP_READ: &str =
+    "func main(; out) { call f(0; out); }\nfunc f(n; d) {\n  if n == 148 {\n    read cell(0, 0) as x { write d = x; }\n  } else { call f(n + 1; d); }\n}\n";
+
+/// A read that is past the last level.
+pub const DEEPER_READ: &str =
+    "func main(; out) { call f(0; out); }\nfunc f(n; d) {\n  if n == 149 {\n    read cell(0, 0) as x { write d = x; }\n  } else { call f(n + 1; d); }\n}\n";
+
+/// 70 nested `par`, each in the left side of the one around it.
+pub const CHAIN: &str =
+    "func main(; out) { call f(0; out); }\nfunc f(n; d) {\n  if n == 70 { write d = n; } else {\n    new a;\n    par { call f(n + 1; a); } { }\n    read a as x { write d = x; }\n  }\n}\n";

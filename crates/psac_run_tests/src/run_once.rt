@@ -1,9 +1,5 @@
-use crate::case::{gives, once, records, session, shelf, words};
+use crate::case::{gives, once, records, session};
 use crate::programs::{DEEP, DEEPER, DOUBLE, NEXT, SUM, TWO_FAULTS};
-use psac_base::{MemSink, MemSource};
-use psac_fork::NoGate;
-use psac_run::psac;
-use std::alloc::AllocError;
 
 const CHOSEN: &str = "func main(; out) {\n  read cell(0, 1) as x { write out = x; }\n}\n";
 
@@ -75,56 +71,10 @@ fn programs_that_are_refused(rt: HostRuntime) {
 
 #[test]
 fn records_of_fields(rt: HostRuntime) {
-    let quoted = records(CHOSEN, b"1,\"a,b\"\n2,c\n");
+    let quoted = records(CHOSEN, "1,\"a,b\"\n2,c\n");
     assert!(rt; gives(&rt, rt.alloc(), &quoted, 0, "out = \"a,b\"\n") == Ok(true));
-    let ragged = records(CHOSEN, b"1,2\n3,4\n5\n");
+    let ragged = records(CHOSEN, "1,2\n3,4\n5\n");
     assert!(rt; gives(&rt, rt.alloc(), &ragged, 5, "input record 3 ragged\n") == Ok(true));
-}
-
-#[test]
-fn faults_of_the_shelf(rt: HostRuntime) {
-    for fails in 1..3u64 {
-        let mut case = once(DOUBLE, "21\n");
-        case.fails = fails;
-        assert!(rt; gives(&rt, rt.alloc(), &case, 3, "") == Ok(true));
-    }
-    let mut case = once("func main(; out) { write out = ; }", "21\n");
-    case.fails = 2;
-    let run = gives(
-        &rt,
-        rt.alloc(),
-        &case,
-        4,
-        "program line 1 column 32 syntax\n",
-    );
-    assert!(rt; run == Ok(true));
-}
-
-#[test]
-fn failing_writes(rt: HostRuntime) -> Result<(), AllocError> {
-    let alloc = rt.alloc();
-    let text = b"out = 42\n";
-    for call in 1..10u64 {
-        let words = words(alloc, "psac once p.psac i.txt")?;
-        let mut shelf = shelf(&rt, alloc, DOUBLE, b"21\n", 0)?;
-        let mut script = MemSource::new(Vec::new(alloc), 1, Vec::new(alloc));
-        let fails = Vec::from_slice(alloc, &[call])?;
-        let Ok(mut out) = MemSink::new(alloc, 100, 1, fails) else {
-            return Err(AllocError);
-        };
-        let status = psac(
-            &rt,
-            alloc,
-            &words,
-            &mut shelf,
-            &mut script,
-            &mut out,
-            &NoGate,
-        );
-        assert_eq!(rt; status.code, 7, "at call {call}");
-        assert_eq!(rt; out.bytes(), text.get(..call as usize - 1));
-    }
-    Ok(())
 }
 
 #[test]

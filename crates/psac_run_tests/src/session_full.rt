@@ -1,9 +1,9 @@
-use crate::opening::{Opening, crew, opened};
+use crate::opening::{CAPS, Opening, crew, opened};
 use crate::programs::SUM;
 use psac_engine::Answer;
 use psac_fork::NoGate;
 use psac_inputs::{Batch, Interner};
-use psac_model::{CapKind, Caps, Work};
+use psac_model::{CapKind, Caps, Mode, Shown, Work};
 use std::alloc::Global;
 use std::test::Fail;
 use std::thread::Threads;
@@ -66,5 +66,42 @@ fn one_too_few(rt: HostRuntime) -> Result<(), Fail> {
         let caps = Caps { links: 9, ..enough };
         assert!(rt; both_give(&rt, alloc, caps, workers, Some(CapKind::Links))?);
     }
+    Ok(())
+}
+
+// Whether the commit after one that memory failed runs anew, and any second commit shows what a fresh run gives.
+fn recovers<Rt: Threads + Sync>(rt: &Rt, alloc: Global) -> Result<bool, Fail> {
+    let Ok(mut texts) = Interner::new(alloc) else {
+        return Err("memory")?;
+    };
+    let opening = Opening {
+        program: SUM,
+        input: "1\n2\n3\n4\n",
+        room: 4,
+        caps: CAPS,
+        workers: 2,
+    };
+    let mut engine = opened(alloc, &opening, &mut texts)?;
+    let crew = crew(2)?;
+    let Ok(mut batch) = Batch::new(alloc, engine.grid()) else {
+        return Err("memory")?;
+    };
+    let first = engine.commit(rt, &mut batch, &crew, &NoGate);
+    let second = engine.commit(rt, &mut batch, &crew, &NoGate);
+    match (first, second, engine.shown()) {
+        (Err(Answer::NoMemory), Ok(work), Ok(Some(shown))) => {
+            Ok(work.mode == Mode::Anew && shown.as_slice() == [Shown::Int(10)].as_slice())
+        }
+        (Ok(_), Ok(_), Ok(Some(shown))) => Ok(shown.as_slice() == [Shown::Int(10)].as_slice()),
+        (Ok(_), Err(Answer::NoMemory), Ok(None)) => Ok(true),
+        (Ok(_), Ok(_), Err(_)) => Err("memory")?,
+        _ => Ok(false),
+    }
+}
+
+// Made for `rt try --test --fail-alloc N`, under which only what the test itself asks for may fail it.
+#[test]
+fn after_refused_memory(rt: HostRuntime) -> Result<(), Fail> {
+    assert!(rt; recovers(&rt, rt.alloc())?);
     Ok(())
 }
