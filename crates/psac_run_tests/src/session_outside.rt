@@ -43,11 +43,3 @@ fn failures(rt: HostRuntime) -> Result<(), Fail> {
     let bytes = Vec::from_slice(alloc, b"commit\nshow\nsho")?;
     ends(&rt, alloc, (2, 0), bytes, (SessionEnd::SourceFailed, work))
 }
-
-#[test]
-fn too_long(rt: HostRuntime) -> Result<(), Fail> {
-    let alloc = rt.alloc();
-    let mut bytes = Vec::new(alloc);
-    bytes.resize(16_777_217, b'\n')?;
-    ends(&rt, alloc, (0, 0), bytes, (SessionEnd::TooLong, ""))
-}
