@@ -25,13 +25,13 @@ use Rattle.psac_plain.specs.Opened.{at_slot, first_output}
 use Rattle.psac_plain.proofs.Cells.{held_cells}
 use Rattle.psac_trace.specs.Rights.{held as held_in, Within, Sees}
 use Rattle.psac_trace.specs.Grown.{Differ, Made, Moves, MoreClaims}
-use Rattle.psac_engine.specs.Places.{fixed_slots, base_heap}
-use Rattle.psac_engine.specs.Holding.{entries, HasGrid, HasFixed}
-use Rattle.psac_engine.specs.Resting.{IsTop, IsYoung, HasAll, IsCleared}
-use Rattle.psac_engine.proofs.Members.{counted_in, entry_of}
-use Rattle.psac_engine.proofs.Holding.{then_is, value_one, sees_value}
-use Rattle.psac_engine.proofs.Entries.{cell_inside, cell_plain}
-use Rattle.psac_engine.proofs.Starts.{start, named_place, start_both}
+use Rattle.psac_stage.specs.Places.{fixed_slots, base_heap}
+use Rattle.psac_stage.specs.Holding.{entries, HasGrid, HasFixed}
+use Rattle.psac_stage.specs.Resting.{IsTop, IsYoung, HasAll, IsCleared}
+use Rattle.psac_stage.proofs.Members.{counted_in, entry_of}
+use Rattle.psac_stage.proofs.Holding.{then_is, value_one, sees_value}
+use Rattle.psac_stage.proofs.Entries.{cell_inside, cell_plain}
+use Rattle.psac_stage.proofs.Starts.{start, named_place, start_both}
 
 -- the values of the inputs in the base
 

@@ -20,14 +20,15 @@ use Rattle.psac_trace.specs.Grown.{Made}
 use Rattle.psac_trace.specs.Told as told
 use Rattle.psac_trace.specs.Told.{Ended}
 use Rattle.psac_engine.specs.Commit.{Answers, IsCaps}
-use Rattle.psac_engine.specs.Places.{base_heap}
-use Rattle.psac_engine.specs.Holding.{value_in}
-use Rattle.psac_engine.specs.Resting.{HasAll}
-use Rattle.psac_engine.specs.Settling.{Settles}
+use Rattle.psac_stage.specs.Places.{base_heap}
+use Rattle.psac_stage.specs.Holding.{value_in}
+use Rattle.psac_stage.specs.Resting.{HasAll}
+use Rattle.psac_stage.specs.Settling.{Settles}
 use Rattle.psac_engine.specs.Tracing.{MainBegins, MainLeaves}
-use Rattle.psac_engine.specs.Running.{MayRun, HasHeap, Shows}
-use Rattle.psac_engine.proofs.Holding.{sees_value}
-use Rattle.psac_engine.proofs.Begins.{begins, body_left}
+use Rattle.psac_engine.specs.Running.{HasHeap, Shows}
+use Rattle.psac_stage.specs.Resting.{MayRun}
+use Rattle.psac_stage.proofs.Holding.{sees_value}
+use Rattle.psac_stage.proofs.Begins.{begins, body_left}
 use Rattle.psac_engine.proofs.Outputs.{output_bound, has_outputs}
 use Rattle.psac_engine.specs.Outputs.{HasOutputs}
 use Rattle.psac_model.specs.Series.{has}
@@ -35,7 +36,7 @@ use Rattle.psac_plain.specs.Opened.{at_slot, first_output}
 use Rattle.psac_engine.proofs.Afters.{all_after, alone_now, few}
 use Rattle.psac_engine.proofs.Shows.{run_is}
 use Rattle.psac_engine.proofs.Uncapped.{uncapped, nodes_small}
-use Rattle.psac_engine.proofs.Settles.{settled_all}
+use Rattle.psac_stage.proofs.Settles.{settled_all}
 use Rattle.psac_engine.proofs.Ends.{answer_of, Tells as TellsOf, told as told_of, base_seen, serial, within, over_is, answered}
 
 judged_good : (kinds : List CapKind) (r : Ran Name Heap) → kinds ≡ [] → r.end ≡ Done → judged kinds r ≡ Good r.tree r.heap

@@ -8,7 +8,7 @@ use Rattle.psac_laws.proofs.Places.{nat_same}
 use Rattle.psac_traced.specs.Rec.{Rec, E, A, W, S, P, R}
 use Rattle.psac_traced.specs.Places.{Makes, IsApart}
 use Rattle.psac_traced.specs.Mending.{made_by}
-use Rattle.psac_engine.proofs.Members.{in_counted}
+use Rattle.psac_stage.proofs.Members.{in_counted}
 
 pub makes_member : (r : Rec Handle) (m : Handle) → Makes r m → Member m (made_by r)
 makes_member E m h = absurd h

@@ -41,17 +41,17 @@ use Rattle.psac_trace.proofs.Heaps.{within_fresh}
 use Rattle.psac_engine.specs.declared.answer.Answer.{Answer}
 use Rattle.psac_engine.specs.declared.answer.Answer.TheVariants as answer
 use Rattle.psac_engine.specs.Commit.{Answers}
-use Rattle.psac_engine.specs.Places.{fixed_slots, base_heap}
-use Rattle.psac_engine.specs.Resting.{HasAll, IsRested, IsCleared}
-use Rattle.psac_engine.specs.Settling.{Settles}
+use Rattle.psac_stage.specs.Places.{fixed_slots, base_heap}
+use Rattle.psac_stage.specs.Resting.{HasAll, IsRested, IsCleared}
+use Rattle.psac_stage.specs.Settling.{Settles}
 use Rattle.psac_engine.proofs.Apart.{apart_distinct, makes_member}
-use Rattle.psac_engine.proofs.Starts.{start, one, start_heaps}
+use Rattle.psac_stage.proofs.Starts.{start, one, start_heaps}
 use Rattle.psac_engine.proofs.Shows.{IsRecord, all_named, shows, size_is, behind_names}
-use Rattle.psac_engine.proofs.Begins.{body_left, ready}
+use Rattle.psac_stage.proofs.Begins.{body_left, ready}
 use Rattle.psac_engine.proofs.Afters.{behind, distinct}
-use Rattle.psac_engine.proofs.Counts.{drawn_long, once_low}
+use Rattle.psac_stage.proofs.Counts.{drawn_long, once_low}
 use Rattle.psac_engine.proofs.Sizes.{nodes_count, mods_count, links_count}
-use Rattle.psac_engine.proofs.Settles.{mods_fit, nodes_fit, links_fit}
+use Rattle.psac_stage.proofs.Settles.{mods_fit, nodes_fit, links_fit}
 use Rattle.psac_engine.proofs.Outcomes.{none_over, good_answers, fault_answers, full_answers, wanting}
 
 -- what is answered to an end

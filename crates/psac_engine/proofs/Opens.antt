@@ -27,14 +27,14 @@ use Rattle.psac_record.specs.declared.record.Record.{Record}
 use Rattle.psac_model.specs.Fresh.{World}
 use Rattle.psac_inputs.specs.Grid.{Grid}
 use Rattle.psac_model.specs.declared.ends.Caps.{Caps}
-use Rattle.psac_engine.specs.Places.{fixed_slots}
-use Rattle.psac_engine.specs.Holding.{entries, HasGrid, HasFixed, IsBare}
-use Rattle.psac_engine.specs.Resting.{IsTop, IsRewound, IsYoung, HasAll, IsRested, IsCleared}
-use Rattle.psac_engine.specs.Storing.{SameSlots}
+use Rattle.psac_stage.specs.Places.{fixed_slots}
+use Rattle.psac_stage.specs.Holding.{entries, HasGrid, HasFixed, IsBare}
+use Rattle.psac_stage.specs.Resting.{IsTop, IsRewound, IsYoung, HasAll, IsRested, IsCleared}
+use Rattle.psac_stage.specs.Storing.{SameSlots}
 use Rattle.psac_engine.specs.Outputs.{HasOutputs}
 use Rattle.psac_engine.proofs.Engines.{for_some, some_not}
-use Rattle.psac_engine.proofs.Members.{in_counted}
-use Rattle.psac_engine.proofs.Storing.{fixed_same, bare_same}
+use Rattle.psac_stage.proofs.Members.{in_counted}
+use Rattle.psac_stage.proofs.Storing.{fixed_same, bare_same}
 
 abbrev first_owned : ℕ → OwnedView
 first_owned n = record { of = record { slot = n; generation = 0 }; words = Some 0 ∷ Some 0 ∷ Some 0 ∷ [] }

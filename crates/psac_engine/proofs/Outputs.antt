@@ -29,13 +29,13 @@ use Rattle.psac_traced.specs.Places.{names}
 use Rattle.psac_traced.proofs.Alike.{held_alike}
 use Rattle.psac_trace.specs.Rights.{In}
 use Rattle.psac_trace.proofs.Heaps.{held_front}
-use Rattle.psac_engine.specs.Places.{base_heap, heap_of}
-use Rattle.psac_engine.specs.Holding.{value_in}
+use Rattle.psac_stage.specs.Places.{base_heap, heap_of}
+use Rattle.psac_stage.specs.Holding.{value_in}
 use Rattle.psac_engine.specs.Outputs.{plain_shown, HasOutputs}
 use Rattle.psac_engine.specs.Running.{HasHeap}
-use Rattle.psac_engine.proofs.Starts.{start, named_place, held_is}
+use Rattle.psac_stage.proofs.Starts.{start, named_place, held_is}
 use Rattle.psac_engine.proofs.Shows.{all_named}
-use Rattle.psac_engine.proofs.Readies.{outputs_stand}
+use Rattle.psac_stage.proofs.Readies.{outputs_stand}
 
 -- a name that stands in a list
 has_at : (ds : List ℕ) (i x : ℕ) → slice_get ds i ≡ Some x → has x ds ≡ true

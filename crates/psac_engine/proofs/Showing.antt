@@ -34,13 +34,13 @@ use Rattle.psac_record.specs.Shown.{kept_of, rec_of}
 use Rattle.psac_engine.specs.Commit.{IsCaps}
 use Rattle.psac_engine.specs.Sound.{fresh_over}
 use Rattle.psac_ops.specs.declared.plain.Handle.{Handle}
-use Rattle.psac_engine.specs.Places.{fixed_slots, name_of}
-use Rattle.psac_engine.specs.Holding.{words_in, all_known, value_in, HasFixed}
-use Rattle.psac_engine.specs.Resting.{AllOf, IsRewound}
+use Rattle.psac_stage.specs.Places.{fixed_slots, name_of}
+use Rattle.psac_stage.specs.Holding.{words_in, all_known, value_in, HasFixed}
+use Rattle.psac_stage.specs.Resting.{AllOf, IsRewound}
 use Rattle.psac_engine.specs.Running.{Shows}
 use Rattle.psac_engine.specs.Outputs.{plain_shown, HasOutputs}
 use Rattle.psac_engine.specs.Showing.{shown_at, shown_from, HaveValues, OnlyLooked}
-use Rattle.psac_engine.proofs.Holding.{then_is, known_is, words_member}
+use Rattle.psac_stage.proofs.Holding.{then_is, known_is, words_member}
 use Rattle.psac_engine.proofs.Uncapped.{uncapped}
 
 -- a fixed slot

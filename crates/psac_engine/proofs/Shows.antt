@@ -22,8 +22,8 @@ use Rattle.psac_traced.proofs.Alike.{tree_image, reads_image}
 use Rattle.psac_traced.proofs.Has.{name_in_is}
 use Rattle.psac_traced.proofs.Serial.{serial_size}
 use Rattle.psac_traced.proofs.Fresh.{fresh_traced}
-use Rattle.psac_engine.specs.Places.{fixed_slots, base_heap, name_of, heap_of, run_of}
-use Rattle.psac_engine.proofs.Starts.{start, one, opening_is, start_heaps}
+use Rattle.psac_stage.specs.Places.{fixed_slots, base_heap, name_of, heap_of, run_of}
+use Rattle.psac_stage.proofs.Starts.{start, one, opening_is, start_heaps}
 
 ran_is : (r : Ran Name Heap) (t : Tree Name) (h : Heap) (e : End) → t ≡ r.tree → h ≡ r.heap → e ≡ r.end → record { tree = t; heap = h; end = e } ≡ r
 ran_is r t h e p q s =

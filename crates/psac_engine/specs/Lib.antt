@@ -1,10 +1,5 @@
 pub mod Commit
 pub mod Sound
-pub mod Places
-pub mod Holding
-pub mod Resting
-pub mod Settling
-pub mod Storing
 pub mod Tracing
 pub mod Running
 pub mod Answering

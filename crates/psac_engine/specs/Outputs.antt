@@ -8,7 +8,7 @@ use Rattle.psac_model.specs.declared.ends.Shown.{Shown}
 use Rattle.psac_model.specs.Fresh.{World, fresh}
 use Rattle.psac_model.specs.Outputs.{shown_of, output_shown}
 use Rattle.psac_plain.specs.Opened.{first_output}
-use Rattle.psac_engine.specs.Holding.{value_in}
+use Rattle.psac_stage.specs.Holding.{value_in}
 
 abbrev pub plain_shown : Plain → Shown
 plain_shown x = shown_of (value_of x)

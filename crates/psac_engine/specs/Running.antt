@@ -16,17 +16,10 @@ use Rattle.psac_record.specs.declared.record.Record.{Record}
 use Rattle.psac_record.specs.Shown.{rec_of}
 use Rattle.psac_engine.specs.declared.answer.Answer.{Answer}
 use Rattle.psac_engine.specs.Commit.{Answers}
-use Rattle.psac_engine.specs.Places.{fixed_slots, heap_of, run_of}
-use Rattle.psac_engine.specs.Holding.{value_in}
+use Rattle.psac_stage.specs.Places.{fixed_slots, heap_of, run_of}
+use Rattle.psac_stage.specs.Holding.{value_in}
 use Rattle.psac_engine.specs.Outputs.{HasOutputs}
-use Rattle.psac_engine.specs.Resting.{HasAll, IsRested, IsCleared}
-
--- the pass is at rest over the grid, with so many outputs, and nothing that was made is out
-pub record MayRun (outs : ℕ) (g : Grid) (caps : Caps) (age : ℕ) (t : Tables) (p : Pass) : Type 0 where
-  pub of : IsOf p t
-  pub all : HasAll g outs caps age p
-  pub rested : IsRested p
-  pub clear : IsCleared (fixed_slots g outs) p
+use Rattle.psac_stage.specs.Resting.{HasAll, IsRested, IsCleared}
 
 -- the words of the inputs and of all that the record wrote are the heap's values
 pub record HasHeap (w : World) (g : Grid) (r : Rec Handle) (v : ValueView) : Type 0 where

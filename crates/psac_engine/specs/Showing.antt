@@ -2,7 +2,7 @@
 use Rattle.std.specs.Prelude.{◌≡◌, ℕ, zero, suc, ◌+◌, ◌<◌, List, [], ◌∷◌, Option, IsSome, option_map}
 use Rattle.psac_values.specs.declared.view.ValueView.{ValueView}
 use Rattle.psac_model.specs.declared.ends.Shown.{Shown}
-use Rattle.psac_engine.specs.Holding.{value_in}
+use Rattle.psac_stage.specs.Holding.{value_in}
 use Rattle.psac_engine.specs.Outputs.{plain_shown}
 
 -- what is shown of the value of a slot, where the pass knows one

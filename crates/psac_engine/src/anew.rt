@@ -9,12 +9,13 @@ ghost use Rattle.psac_record.specs.Kept.{Kept};
 ghost use Rattle.psac_engine.specs.Commit.{IsCaps};
 ghost use Rattle.psac_engine.specs.Answering.{answer_to};
 ghost use Rattle.psac_fork.specs.Whole.{IsOf};
-ghost use Rattle.psac_engine.specs.Resting.{IsRested};
-ghost use Rattle.psac_engine.specs.Running.{MayRun, HasRun};
+ghost use Rattle.psac_stage.specs.Resting.{IsRested};
+ghost use Rattle.psac_engine.specs.Running.{HasRun};
+ghost use Rattle.psac_stage.specs.Resting.{MayRun};
 ghost use Rattle.psac_engine.specs.Sound.{world_with};
 
 use crate::Answer;
-use crate::settle::{cleared, settled};
+use psac_stage::settle::{cleared, settled};
 use crate::trace::run_main;
 use psac_check::Checked;
 use psac_fork::{Crew, Gate, Pass, Tables};

@@ -4,9 +4,7 @@
 mod anew;
 mod answer;
 mod engine;
-mod settle;
 mod show;
-mod store;
 mod trace;
 
 pub use answer::Answer;

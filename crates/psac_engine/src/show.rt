@@ -1,7 +1,7 @@
 //! What is shown of the outputs, by their words in the table of values.
 ghost use Rattle.std.specs.Prelude.{◌≡◌, ℕ, ◌+◌, ◌<◌, ◌≤◌, IfOk, IsSome, Some, map};
 ghost use Rattle.psac_values.specs.Steps.{looked};
-ghost use Rattle.psac_engine.specs.Holding.{HasFixed};
+ghost use Rattle.psac_stage.specs.Holding.{HasFixed};
 ghost use Rattle.psac_engine.specs.Outputs.{plain_shown};
 ghost use Rattle.psac_engine.specs.Showing.{HaveValues, OnlyLooked, shown_at, shown_from};
 

@@ -20,7 +20,7 @@ use Rattle.psac_report.specs.First.{committed_anew}
 use Rattle.psac_engine.specs.declared.answer.Answer.{Answer}
 use Rattle.psac_engine.specs.declared.answer.Answer.TheVariants as answer
 use Rattle.psac_engine.specs.Commit.{Answers, kept_after}
-use Rattle.psac_engine.proofs.Placed.{cols_kept, room_kept}
+use Rattle.psac_stage.proofs.Placed.{cols_kept, room_kept}
 use Rattle.psac_session.specs.Replied.{IsReplyTo}
 use Rattle.psac_session.specs.State.{kept_of, no_places}
 

@@ -6,7 +6,7 @@ use Rattle.psac_trace.specs.Told.{Good, ended_of, halted}
 use Rattle.psac_engine.specs.Commit.{Answers}
 use Rattle.psac_engine.proofs.Anews.{main_begins, joined, now_all, now_answered, now_shows, now_heap, now_outputs, whole_size}
 use Rattle.psac_engine.proofs.Calls.{begins_call, leaves_call, leaves_ok, leaves_err, answer_halted}
-use Rattle.psac_engine.proofs.Settles.{settled_rested}
+use Rattle.psac_stage.proofs.Settles.{settled_rested}
 use Rattle.psac_engine.proofs.anew.run_anew.Goals as goal
 
 pub run_main-told-requires-clause-begins : goal.run_main-told-requires-clause-begins

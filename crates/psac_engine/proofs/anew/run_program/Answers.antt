@@ -1,7 +1,8 @@
 use Rattle.std.proofs.Common.{◌≡◌, sym, subst, length, Some, arith}
 use Rattle.psac_model.specs.Fresh.{World, main_of}
 use Rattle.psac_laws.proofs.Checked.{is_checked}
-use Rattle.psac_engine.specs.Running.{MayRun, HasRun}
+use Rattle.psac_engine.specs.Running.{HasRun}
+use Rattle.psac_stage.specs.Resting.{MayRun}
 use Rattle.psac_engine.proofs.Worlds.{world_by, few_dests}
 use Rattle.psac_engine.proofs.anew.run_program.Goals as goal
 

@@ -1,6 +1,6 @@
 use Rattle.std.proofs.Common.{ap, ◌+◌, ◌*◌, arith}
 use Rattle.psac_engine.proofs.Mains.{ground_is}
-use Rattle.psac_engine.proofs.Storing.{first_is}
+use Rattle.psac_stage.proofs.Storing.{first_is}
 use Rattle.psac_engine.proofs.trace.ground.Goals as goal
 
 pub overflow_add-slot : goal.overflow_add-slot

@@ -4,7 +4,7 @@ use Rattle.psac_trace.specs.Asking.{setting_on}
 use Rattle.psac_trace.specs.Told.{ended_of}
 use Rattle.psac_record.specs.Kept.{E}
 use Rattle.psac_engine.proofs.Mains.{begins_same, leaves_same, made_nothing}
-use Rattle.psac_engine.proofs.Storing.{first_is}
+use Rattle.psac_stage.proofs.Storing.{first_is}
 use Rattle.psac_engine.proofs.trace.run_main.Goals as goal
 
 pub overflow_cast-dests : goal.overflow_cast-dests

@@ -8,12 +8,13 @@ use Rattle.psac_fork.specs.Whole.{IsOf}
 use Rattle.psac_record.specs.declared.record.Record.{Record}
 use Rattle.psac_record.specs.Shown.{rec_of}
 use Rattle.psac_engine.specs.declared.answer.Answer.{Answer}
-use Rattle.psac_engine.specs.Places.{fixed_slots}
-use Rattle.psac_engine.specs.Resting.{HasAll, IsRested, IsCleared}
-use Rattle.psac_engine.specs.Running.{MayRun, HasRun, Shows}
+use Rattle.psac_stage.specs.Places.{fixed_slots}
+use Rattle.psac_stage.specs.Resting.{HasAll, IsRested, IsCleared}
+use Rattle.psac_engine.specs.Running.{HasRun, Shows}
+use Rattle.psac_stage.specs.Resting.{MayRun}
 use Rattle.psac_engine.specs.Outputs.{HasOutputs}
 use Rattle.psac_engine.specs.Sound.{world_with}
-use Rattle.psac_engine.proofs.Settles.{all_older}
+use Rattle.psac_stage.proofs.Settles.{all_older}
 use Rattle.psac_engine.proofs.Engines.{for_some, for_none, good_means, some_not}
 use Rattle.psac_engine.proofs.engine.Engine.commit.Goals as goal
 

@@ -4,7 +4,7 @@ use Rattle.psac_values.specs.Steps as values
 use Rattle.psac_readers.specs.Steps as readers
 use Rattle.psac_record.specs.declared.record.Record.{Record}
 use Rattle.psac_record.specs.Shown.{rec_of}
-use Rattle.psac_engine.specs.Places.{fixed_slots}
+use Rattle.psac_stage.specs.Places.{fixed_slots}
 use Rattle.psac_engine.specs.Running.{Shows}
 use Rattle.psac_engine.specs.Sound.{world_with}
 use Rattle.psac_engine.proofs.Engines.{for_none, some_not}

@@ -2,8 +2,8 @@ use Rattle.std.proofs.Common.{◌≡◌, ◌∙◌, ◌+◌, ◌*◌, ap, sym, l
 use Rattle.psac_fork.specs.declared.tables.Pass.{Pass}
 use Rattle.psac_fork.specs.Whole.{IsOf}
 use Rattle.psac_plain.specs.Opened.{first_output}
-use Rattle.psac_engine.specs.Places.{fixed_slots}
-use Rattle.psac_engine.specs.Resting.{HasAll, IsRested, IsCleared}
+use Rattle.psac_stage.specs.Places.{fixed_slots}
+use Rattle.psac_stage.specs.Resting.{HasAll, IsRested, IsCleared}
 use Rattle.psac_engine.specs.Outputs.{HasOutputs}
 use Rattle.psac_engine.specs.Sound.{world_with}
 use Rattle.psac_engine.proofs.Engines.{for_some, some_not}

@@ -1,0 +1,12 @@
+pub mod Placed
+pub mod Members
+pub mod Holding
+pub mod Entries
+pub mod Starts
+pub mod Readies
+pub mod Begins
+pub mod Clears
+pub mod Counts
+pub mod Settles
+pub mod Storing
+pub mod Stages

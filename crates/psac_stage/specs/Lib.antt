@@ -1,0 +1,5 @@
+pub mod Places
+pub mod Holding
+pub mod Resting
+pub mod Settling
+pub mod Storing

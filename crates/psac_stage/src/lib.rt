@@ -1,0 +1,5 @@
+//! What stands between an engine and a run: the inputs' words in the table of values, and a pass between two commits.
+#![tactic(auto)]
+
+pub mod settle;
+pub mod store;
