@@ -95,14 +95,33 @@ settings_of texts = do
   rows ← setting rows texts.rows
   Some (record { workers = workers; caps = caps; rows = rows })
 
-abbrev pub asked_by : Given → Option Asked
-asked_by texts = do
-  mode ← option_and_then mode_of texts.mode
+-- what the texts ask for, where they name a mode
+abbrev pub asked_in : Option Mode → Given → Option Asked
+asked_in found texts = do
+  mode ← found
   program ← texts.program
   input ← texts.input
   settings ← settings_of texts
   Some (record { mode = mode; program = program; input = input; settings = settings })
 
+abbrev pub asked_by : Given → Option Asked
+asked_by texts = asked_in (option_and_then mode_of texts.mode) texts
+
+-- what words of the command's form ask for; others ask for nothing
+abbrev pub in_form : (Given → Option Asked) → List (List ℕ) → Option Asked
+in_form by words = if is_taken words then by (given_by words) else None
+
 -- what the words ask for, where they are of the command's form and every text and number is one
 unfoldable pub asked : List (List ℕ) → Option Asked
-asked words = if is_taken words then asked_by (given_by words) else None
+asked words = in_form asked_by words
+
+-- the session that is watched has a word of its own
+abbrev pub watch_mode_of : List ℕ → Option Mode
+watch_mode_of word = if bytes_eq word (codes "watch") then Some Session else None
+
+abbrev pub watched_by : Given → Option Asked
+watched_by texts = asked_in (option_and_then watch_mode_of texts.mode) texts
+
+-- the session that the words ask to be watched
+unfoldable pub watch_asked : List (List ℕ) → Option Asked
+watch_asked words = in_form watched_by words

@@ -5,4 +5,4 @@ mod request;
 mod setting;
 mod words;
 
-pub use request::{Mode, Request, Settings, read_request};
+pub use request::{Mode, Request, Settings, read_request, read_watch_request};

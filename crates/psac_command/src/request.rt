@@ -1,6 +1,6 @@
 // What is asked for.
-ghost use Rattle.std.specs.Prelude.{◌≡◌, IfOk, IfSome, option_map, map, string_bytes};
-ghost use Rattle.psac_command.specs.Asked.{AreCaps, IsIn, asked, asked_by, caps_of, mode_of, settings_of, workers};
+ghost use Rattle.std.specs.Prelude.{◌≡◌, IfOk, IfSome, option_and_then, option_map, map, string_bytes};
+ghost use Rattle.psac_command.specs.Asked.{AreCaps, IsIn, asked, asked_in, caps_of, mode_of, settings_of, watch_asked, watch_mode_of, workers};
 ghost use Rattle.psac_command.specs.Views.{request_view, words_view};
 
 use crate::setting::{Bounds, read_setting};
@@ -103,13 +103,30 @@ fn read_settings(words: &Words<'_>) -> Option<Settings>
     })
 }
 
-fn read_texts<'a>(words: &Words<'a>) -> Option<Request<'a>>
-    ensures value { option_map request_view result ≡ asked_by (words_view words.now) }
+// The mode that the words name.
+fn mode_in(words: &Words<'_>) -> Option<Mode>
+    ensures { result ≡ option_and_then mode_of (words_view words.now).mode }
+{
+    read_mode(words.mode?)
+}
+
+// The mode of a session that is watched, where the words name that.
+fn watch_mode_in(words: &Words<'_>) -> Option<Mode>
+    ensures { result ≡ option_and_then watch_mode_of (words_view words.now).mode }
+{
+    match words.mode? {
+        "watch" => Some(Mode::Session),
+        _ => None,
+    }
+}
+
+fn read_texts<'a>(mode: Option<Mode>, words: &Words<'a>) -> Option<Request<'a>>
+    ensures value { option_map request_view result ≡ asked_in mode (words_view words.now) }
     ensures within { IfSome result (λ r. AreCaps r.settings.caps) }
     ensures workers { IfSome result (λ r. IsIn workers r.settings.workers) }
 {
     Some(Request {
-        mode: read_mode(words.mode?)?,
+        mode: mode?,
         program: words.program?,
         input: words.input?,
         settings: read_settings(words)?,
@@ -124,7 +141,22 @@ pub fn read_request<'a>(alloc: Global, words: &'a [String]) -> Result<Option<Req
     ensures workers { IfOk result (λ found. IfSome found (λ r. IsIn workers r.settings.workers)) }
 {
     match read_words(alloc, words)? {
-        Some(texts) => Ok(read_texts(&texts)),
+        Some(texts) => Ok(read_texts(mode_in(&texts), &texts)),
+        None => Ok(None),
+    }
+}
+
+/// Reads the words of a session that is watched: their mode is `watch`, and all else is as in `read_request`.
+pub fn read_watch_request<'a>(
+    alloc: Global,
+    words: &'a [String],
+) -> Result<Option<Request<'a>>, NoMemory>
+    ensures asked { IfOk result (λ found. option_map request_view found ≡ watch_asked (map string_bytes words.now)) }
+    ensures within { IfOk result (λ found. IfSome found (λ r. AreCaps r.settings.caps)) }
+    ensures workers { IfOk result (λ found. IfSome found (λ r. IsIn workers r.settings.workers)) }
+{
+    match read_words(alloc, words)? {
+        Some(texts) => Ok(read_texts(watch_mode_in(&texts), &texts)),
         None => Ok(None),
     }
 }
