@@ -8,10 +8,9 @@ use std::thread::Threads;
 // The caps, the program, the column, the script and the report of a session that ends well.
 type Row<'a> = (&'a str, &'a str, &'a str, &'a str, &'a str);
 
-const WORKERS: [&str; 2] = [
-    "psac session p.psac i.txt --workers 1",
-    "psac session p.psac i.txt --workers 8",
-];
+const ONE_WORKER: &str = "psac session p.psac i.txt --workers 1";
+
+const EIGHT_WORKERS: &str = "psac session p.psac i.txt --workers 8";
 
 fn writes<Rt: Threads + Abort + Sync>(
     rt: &Rt,
@@ -34,9 +33,16 @@ fn all_write<Rt: Threads + Abort + Sync>(
     rows: &[Row<'_>],
 ) -> Result<(), AllocError> {
     for row in rows {
-        for words in WORKERS {
-            assert!(rt; writes(rt, alloc, words, *row)?, "{words} {}", row.0);
-        }
+        assert!(rt;
+            writes(rt, alloc, ONE_WORKER, *row)?,
+            "one worker, {}",
+            row.0
+        );
+        assert!(rt;
+            writes(rt, alloc, EIGHT_WORKERS, *row)?,
+            "eight workers, {}",
+            row.0
+        );
     }
     Ok(())
 }
