@@ -1,20 +1,17 @@
 -- What a repair took off and put in its place, part by part.
-use Rattle.std.proofs.Common.{◌≡◌, ℕ, ◌+◌, ◌&&◌, Bool, true, false, not, if◌then◌else◌, List, [], ◌∷◌, ◌++◌, map, refl, ap, sym, ◌∙◌, subst, inl, inr, arith, append_assoc}
+use Rattle.std.proofs.Common.{◌≡◌, ℕ, ◌+◌, not, List, [], ◌∷◌, ◌++◌, refl, ap, sym, ◌∙◌, inl, inr, arith}
 use Rattle.std.specs.Prelude.{sum_by, filter}
 use Rattle.std.proofs.lemmas.List.{append-nil}
 use Rattle.std.proofs.lemmas.List.Sums.{sum_by-append, sum_by-cons}
 use Rattle.psac_ops.specs.declared.plain.Handle.{Handle}
-use Rattle.psac_ops.specs.Named.{same_handle}
 use Rattle.psac_slots.specs.Claiming.{times}
 use Rattle.psac_laws.proofs.Places.{test_or}
-use Rattle.psac_values.specs.declared.view.ValueView.{ValueView}
 use Rattle.psac_marks.specs.declared.view.OwnView.{OwnView}
 use Rattle.psac_marks.specs.declared.view.MarksView.{MarksView}
 use Rattle.psac_marks.specs.Steps.{goes_over}
 use Rattle.psac_marks.proofs.Counted.{times_both, times_in, times_out}
-use Rattle.psac_traced.specs.Mending.{unlike, untouched, anew, below, Mending}
-use Rattle.psac_record.specs.declared.parts.Reading.{Reading}
-use Rattle.psac_record.specs.Kept.{Kept, E, A, W, S, P, R, Stands, links_of, nodes_in, made_of, reads_of, bare, added, all_of}
+use Rattle.psac_traced.specs.Mending.{Mending}
+use Rattle.psac_record.specs.Kept.{Kept, E, A, W, S, P, R, links_of, nodes_in, made_of, bare, added, all_of}
 use Rattle.psac_trace.proofs.Growing.{values_then, values_joined}
 use Rattle.psac_trace.proofs.Sums.{sum_map}
 use Rattle.psac_repair.specs.Divided.{neither, writes_slot, has_node, outside}
@@ -22,7 +19,7 @@ use Rattle.psac_repair.specs.Planted.{slots}
 use Rattle.psac_repair.specs.Taken.{nodes_up}
 use Rattle.psac_repair.specs.Rewired.{reads_in}
 use Rattle.psac_repair.specs.Counted.{done}
-use Rattle.psac_repair.specs.Exchanged.{Exchanged, ExchangedKept, ExchangedMade, ExchangedWrote, ExchangedParts, ExchangedSides, ExchangedBlock, ExchangedAgain, Swapped, SwappedThen, SwappedSides, SwappedAgain, ValuesThen, ValuesSides}
+use Rattle.psac_repair.specs.Exchanged.{ExchangedKept, ExchangedMade, ExchangedWrote, ExchangedParts, ExchangedSides, ExchangedBlock, ExchangedAgain, SwappedThen, SwappedSides, SwappedAgain, ValuesThen, ValuesSides}
 use Rattle.psac_repair.proofs.Counting.{all_both, none_done, same_block, other_block}
 
 pub exchanged_kept : ExchangedKept
