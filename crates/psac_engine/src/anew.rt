@@ -15,7 +15,6 @@ ghost use Rattle.psac_stage.specs.Resting.{MayRun};
 ghost use Rattle.psac_engine.specs.Sound.{world_with};
 
 use crate::Answer;
-use psac_stage::settle::{cleared, settled};
 use crate::trace::run_main;
 use psac_check::Checked;
 use psac_fork::{Crew, Gate, Pass, Tables};
@@ -23,6 +22,7 @@ use psac_inputs::Grid;
 use psac_model::{Mode, Size, Work, main_of};
 use psac_ops::TextId;
 use psac_record::Record;
+use psac_stage::settle::{cleared, settled};
 use psac_syntax::{Func, Program};
 use psac_trace::halt::Halt;
 use std::alloc::Global;

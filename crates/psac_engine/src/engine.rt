@@ -15,9 +15,7 @@ ghost use Rattle.psac_engine.specs.Sound.{fresh_over, world_with};
 
 use crate::Answer;
 use crate::anew::{outputs_of, run_program};
-use psac_stage::settle::emptied;
 use crate::show::show_slots;
-use psac_stage::store::{put_grid, staged};
 use psac_base::NoMemory;
 use psac_check::Checked;
 use psac_fork::{Crew, Gate, Pass, Tables};
@@ -25,6 +23,8 @@ use psac_inputs::{Batch, Grid};
 use psac_model::{Caps, Shown, Size, Work};
 use psac_ops::TextId;
 use psac_record::Record;
+use psac_stage::settle::emptied;
+use psac_stage::store::{put_grid, staged};
 use psac_syntax::Program;
 use std::alloc::Global;
 use std::thread::Threads;
