@@ -11,5 +11,5 @@ mod text;
 
 pub use command::{Command, FormRefused, read_command};
 pub use number::read_number;
-pub use reply::{Reply, reply_text};
+pub use reply::{Reply, name_of, push_value, reply_text};
 pub use text::{push_count, push_number};

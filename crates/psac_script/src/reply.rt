@@ -59,7 +59,9 @@ fn bytes_of(texts: &Interner, id: TextId) -> &[u8]
     }
 }
 
-fn push_value(text: &mut Vec<u8>, texts: &Interner, value: Shown) -> Result<(), NoMemory>
+/// Appends a value as it is shown. A text that the list doesn't have is printed as an empty one. After an `Err` a first part of it
+/// may stand there.
+pub fn push_value(text: &mut Vec<u8>, texts: &Interner, value: Shown) -> Result<(), NoMemory>
     ensures { OnOk result (text.new.items ≡ text.old.items ++ value_text texts.now value) }
 {
     match value {
@@ -89,8 +91,8 @@ fn push_output(
     Ok(())
 }
 
-// The bytes of the name at a place, and none where the program doesn't have it.
-fn name_of(program: &Program, name: u16) -> &[u8]
+/// The bytes of the name at a place, and none where the program doesn't have it.
+pub fn name_of(program: &Program, name: u16) -> &[u8]
     ensures { result.now ≡ name_bytes program.now name }
 {
     match program.names.get(usize::from(name)) {
