@@ -1,0 +1,6 @@
+pub mod Finding
+pub mod Opening
+pub mod Renaming
+pub mod Lined
+pub mod Written
+pub mod Dumped
