@@ -5,8 +5,9 @@ use Rattle.psac_syntax.specs.declared.program.Program.{Program}
 use Rattle.psac_grammar.proofs.Whole.{one_program}
 use Rattle.psac_model.specs.Series.{Fault, meets}
 use Rattle.psac_command.specs.Asked.{Asked}
-use Rattle.psac_run.specs.Accept.{Breach, IsAccepted, Limit, Refuses, Syntax}
-use Rattle.psac_run.specs.Answer.{Answers, AreAccepted, Files, HasText, InputRefused, IsInputFile, IsStatus, ProgramRefused, Reported, Usage, Words, Wrote}
+use Rattle.psac_open.specs.Accept.{Breach, IsAccepted, Limit, Refuses, Syntax}
+use Rattle.psac_open.specs.Loaded.{Files}
+use Rattle.psac_run.specs.Answer.{Answers, AreAccepted, HasText, InputRefused, IsInputFile, IsStatus, ProgramRefused, Reported, Usage, Words, Wrote}
 
 same_asked : (a b : Asked) → Some a ≡ Some b → a ≡ b
 same_asked a b e = cc

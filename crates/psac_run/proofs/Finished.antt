@@ -1,7 +1,8 @@
 -- What was written where a run ends with the line of a refusal.
 use Rattle.std.proofs.Common.{◌≡◌, ◌⊎◌, inl, inr, ℕ, List, Option, subst, arith}
 use Rattle.psac_base.specs.Outside.{Appended, AppendedPart}
-use Rattle.psac_run.specs.Answer.{Files, HasPart, HasText, IsAnswer, Words, Wrote, WrotePart}
+use Rattle.psac_open.specs.Loaded.{Files}
+use Rattle.psac_run.specs.Answer.{HasPart, HasText, IsAnswer, Words, Wrote, WrotePart}
 
 seven_has_none : HasText 7 → ⊥
 seven_has_none (inl e) = absurd (omega arith)

@@ -1,5 +1,3 @@
-pub mod Lines
-pub mod Enter
 pub mod Parts
 pub mod Sessions
 pub mod Reports

@@ -20,10 +20,11 @@ use Rattle.psac_engine.specs.declared.engine.Engine.{Engine}
 use Rattle.psac_engine.specs.Engine.{IsOpened, caps_in, grid_in, kept_in, world_in}
 use Rattle.psac_session.specs.State.{kept_of, no_places}
 use Rattle.psac_session.specs.Answered.{Answer, answer_of}
-use Rattle.psac_run.specs.declared.open.Opened.{Opened}
+use Rattle.psac_open.specs.declared.opening.Opened.{Opened}
 use Rattle.psac_run.specs.Served.{IsServed, Served, ServedPart, report_in}
-use Rattle.psac_run.specs.Views.{Holds}
-use Rattle.psac_run.specs.Answer.{Files, HasProgram, HasText, Held, Reported, Wrote, WrotePart, answers_of, report_of}
+use Rattle.psac_open.specs.Views.{Holds}
+use Rattle.psac_open.specs.Loaded.{Files, HasProgram}
+use Rattle.psac_run.specs.Answer.{HasText, Held, Reported, Wrote, WrotePart, answers_of, report_of}
 
 answers_with : (w1 w : World) (c1 c : Caps) (g1 g : Grid) (kept : Option (Ran Name Heap)) (texts : Texts) (lines : List (List ℕ)) → w1 ≡ w → c1 ≡ c → g1 ≡ g → kept ≡ None
     → replies_by w1 (first_step w1 c1) lines (record { grid = g1; texts = texts; kept = option_map kept_of kept; staged = put_all (empty_batch g1) g1; places = no_places })

@@ -1,6 +1,5 @@
 -- What the top call promises.
 use Rattle.std.specs.Prelude.{◌≡◌, ◌⊎◌, ℕ, List, [], Option, Some, None}
-use Rattle.psac_base.specs.Causes.{Rose}
 use Rattle.psac_base.specs.Outside.{Appended, AppendedPart, IsFile}
 use Rattle.psac_syntax.specs.declared.program.Program.{Program}
 use Rattle.psac_inputs.specs.Grid.{Grid}
@@ -15,21 +14,13 @@ use Rattle.psac_command.specs.declared.request.Mode.{Mode}
 use Rattle.psac_command.specs.declared.request.Mode.TheVariants.{Once, Session}
 use Rattle.psac_command.specs.Asked.{Asked}
 use Rattle.psac_session.specs.Answered.{Answer, IsScript}
-use Rattle.psac_run.specs.Accept.{IsAccepted, Refuses}
-use Rattle.psac_run.specs.Opens.{Opens, RefusesBeside}
-use Rattle.psac_run.specs.declared.top.TheConstants.{MOST}
+use Rattle.psac_open.specs.Accept.{IsAccepted, Refuses}
+use Rattle.psac_open.specs.Loaded.{AcceptedFile, Counts, Files, RoseFor}
+use Rattle.psac_open.specs.Opens.{Opens, RefusesBeside}
 
 -- what the words ask for, if it is known
 abbrev pub Words : Type 0
 Words = Option Asked
-
--- the files of a shelf, by name and bytes, where it tells them
-abbrev pub Files : Type 0
-Files = Option (List (List ℕ × List ℕ))
-
--- counts for each pair of a name and a limit
-abbrev pub Counts : Type 0
-Counts = List ℕ → ℕ → ℕ
 
 -- the report of one run, or of a session over a script
 abbrev pub report_of : Mode → World → Caps → Grid → Texts → List ℕ → List ℕ
@@ -105,27 +96,12 @@ pub record Held (files : Files) (words : Words) (is : Answer → Type 0) : Type 
   pub opens : Opens accepted asked.input input asked.settings.rows world grid texts
   pub holds : is (answers_of world asked.settings.caps grid texts)
 
--- loads of that name failed, or met too large a file
-abbrev pub RoseFor : List ℕ → Counts → Counts → Counts → Counts → Type 0
-RoseFor name faults faults_now overs overs_now = Rose (faults name MOST) (faults_now name MOST) ⊎ Rose (overs name MOST) (overs_now name MOST)
-
--- the bytes of a file are a program that is run
-pub record AcceptedFile (files : Files) (name : List ℕ) : Type 0 where
-  pub bytes : List ℕ
-  pub program : Program
-  pub is_file : IsFile files name bytes
-  pub is_accepted : IsAccepted bytes program
-
 -- the program's load failed; or the program is accepted, and the input's load failed
 abbrev pub LoadFailed : Files → Words → Counts → Counts → Counts → Counts → Type 0
 LoadFailed files None faults faults_now overs overs_now = ⊥
 LoadFailed files (Some a) faults faults_now overs overs_now =
     RoseFor a.program faults faults_now overs overs_now
     ⊎ (AcceptedFile files a.program × RoseFor a.input faults faults_now overs overs_now)
-
--- a program that is run, of some bytes of the file of that name
-abbrev pub HasProgram : Files → List ℕ → Program → Type 0
-HasProgram files name p = (bytes : List ℕ) × IsFile files name bytes × IsAccepted bytes p
 
 -- nothing was written, or a first part of a text
 abbrev pub WroteSome : Files → Words → Option (List ℕ) → Option (List ℕ) → Option (List ℕ) → Type 0

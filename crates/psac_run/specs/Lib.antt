@@ -1,6 +1,2 @@
-pub mod Accept
-pub mod Loads
-pub mod Opens
-pub mod Views
 pub mod Served
 pub mod Answer

@@ -7,12 +7,10 @@ ghost use Rattle.psac_engine.specs.Engine.{commits_in};
 ghost use Rattle.psac_session.specs.Answered.{AnsweredLong, AnsweredWhole, ReadOut, answer_of};
 ghost use Rattle.psac_run.specs.Served.{IsServed, Served, ServedPart};
 
-use crate::finish::finish;
-use crate::open::Opened;
-use crate::status::{NO_MEMORY, Status};
 use psac_base::{Sink, Source};
 use psac_command::Mode;
 use psac_fork::{Crew, Gate};
+use psac_open::{NO_MEMORY, Opened, Status, finish};
 use psac_session::{SessionEnd, once, session};
 use std::alloc::Global;
 use std::thread::Threads;

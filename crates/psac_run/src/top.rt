@@ -1,46 +1,22 @@
 // The top call.
-ghost use Rattle.std.specs.Prelude.{◌≡◌, ◌⊎◌, ◌↔◌, ◌+◌, [], None, Some, IfOk, IfErr, map, string_bytes};
+ghost use Rattle.std.specs.Prelude.{◌≡◌, ◌⊎◌, ◌↔◌, ◌+◌, [], None, Some, map, string_bytes};
 ghost use Rattle.psac_base.specs.Causes.{Rose};
-ghost use Rattle.psac_base.specs.Outside.{Appended, IsFile, NoneFalls};
+ghost use Rattle.psac_base.specs.Outside.{Appended};
 ghost use Rattle.psac_command.specs.Asked.{AreCaps, Asked, IsIn, asked, workers};
 ghost use Rattle.psac_command.specs.Views.{request_view};
 ghost use Rattle.psac_session.specs.Answered.{AnsweredLong, AnsweredWhole, ReadOut};
-ghost use Rattle.psac_run.specs.Answer.{AreAccepted, HasPart, HasProgram, HasText, Held, IsNoSession, IsStatus, LoadFailed, RoseFor, Wrote, WrotePart, WroteSome};
+ghost use Rattle.psac_open.specs.Loaded.{HasProgram, RoseFor};
+ghost use Rattle.psac_run.specs.Answer.{AreAccepted, HasPart, HasText, Held, IsNoSession, IsStatus, LoadFailed, Wrote, WrotePart, WroteSome};
 
-use crate::accept::accept;
-use crate::finish::finish;
-use crate::open::open;
-use crate::refusal::Refusal;
 use crate::serve::serve;
-use crate::status::{NO_MEMORY, Status};
-use psac_base::{Shelf, ShelfFault, Sink, Source};
+use psac_base::{Shelf, Sink, Source};
 use psac_check::Checked;
 use psac_command::{Mode, Request, read_request};
 use psac_fork::{Crew, Gate};
+use psac_open::{NO_MEMORY, Refusal, Status, accept, finish, load_named, open};
 use psac_refusals::usage_line;
 use std::alloc::Global;
 use std::thread::Threads;
-
-/// The bytes that a file may have.
-pub const MOST: u64 = 16_777_216;
-
-// The bytes of a file, or the status.
-fn load_named<F: Shelf>(shelf: &mut F, alloc: Global, name: &str) -> Result<Vec<u8>, Status>
-    ensures bytes { IfOk result (λ bytes. IsFile (F.files shelf.old) name.now bytes.items) }
-    ensures same { F.files shelf.new ≡ F.files shelf.old }
-    ensures later { NoneFalls (F.faults shelf.old) (F.faults shelf.new) }
-    ensures later_over { NoneFalls (F.overs shelf.old) (F.overs shelf.new) }
-    ensures status { IfErr result (λ s. (s.code ≡ 3) ⊎ (s.code ≡ 9)) }
-    ensures cause { IfErr result (λ s. s.code ≡ 3
-        → RoseFor name.now (F.faults shelf.old) (F.faults shelf.new) (F.overs shelf.old) (F.overs shelf.new)) }
-{
-    match shelf.load(alloc, name, MOST) {
-        Ok(bytes) => Ok(bytes),
-        Err(ShelfFault::NoMemory) => Err(NO_MEMORY),
-        Err(ShelfFault::Failed) => Err(Status { code: 3 }),
-        Err(ShelfFault::TooLarge) => Err(Status { code: 3 }),
-    }
-}
 
 // Loads the input of a program that is run, and runs it.
 fn run_program<Rt: Threads + Sync, F: Shelf, S: Source, K: Sink, G: Gate + Sync>(

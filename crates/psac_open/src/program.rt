@@ -2,7 +2,7 @@
 ghost use Rattle.std.specs.Prelude.{◌≡◌, IfOk, IfErr, MatchOption};
 ghost use Rattle.psac_report.specs.Refused.{breach_line};
 ghost use Rattle.psac_check.specs.Faults.{fault_of};
-ghost use Rattle.psac_run.specs.Accept.{IsAccepted, MeansLine, Refuses};
+ghost use Rattle.psac_open.specs.Accept.{IsAccepted, MeansLine, Refuses};
 
 use crate::refusal::{Refusal, refused};
 use psac_check::{CheckFault, Checked, check};

@@ -1,9 +1,9 @@
 // What a program and an input open.
 ghost use Rattle.std.specs.Prelude.{IfOk, IfErr};
 ghost use Rattle.psac_command.specs.Asked.{AreCaps};
-ghost use Rattle.psac_run.specs.Accept.{MeansLine};
-ghost use Rattle.psac_run.specs.Opens.{RefusesBeside};
-ghost use Rattle.psac_run.specs.Views.{Holds};
+ghost use Rattle.psac_open.specs.Accept.{MeansLine};
+ghost use Rattle.psac_open.specs.Opens.{RefusesBeside};
+ghost use Rattle.psac_open.specs.Views.{Holds};
 
 use crate::input::take_input;
 use crate::refusal::Refusal;

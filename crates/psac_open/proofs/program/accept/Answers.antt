@@ -1,7 +1,7 @@
 use Rattle.std.proofs.Common.{refl, Err}
-use Rattle.psac_run.specs.Accept.{Limit, Refuses, Syntax}
-use Rattle.psac_run.proofs.Lines.{breach_means, line_means, no_limit, no_syntax}
-use Rattle.psac_run.proofs.accept.accept.Goals as goal
+use Rattle.psac_open.specs.Accept.{Limit, Refuses, Syntax}
+use Rattle.psac_open.proofs.Lines.{breach_means, line_means, no_limit, no_syntax}
+use Rattle.psac_open.proofs.program.accept.Goals as goal
 
 pub returns-in-Err-Syntax-clause-refused : goal.returns-in-Err-Syntax-clause-refused
 returns-in-Err-Syntax-clause-refused c =

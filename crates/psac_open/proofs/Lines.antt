@@ -8,11 +8,11 @@ use Rattle.psac_report.specs.Refused.{breach_line}
 use Rattle.psac_check.specs.declared.fault.CheckFault.{CheckFault}
 use Rattle.psac_check.specs.declared.fault.CheckFault.TheVariants as faults
 use Rattle.psac_check.specs.Faults.{fault_of}
-use Rattle.psac_run.specs.declared.refusal.Refusal.{Refusal}
-use Rattle.psac_run.specs.declared.refusal.Refusal.TheVariants as refusal
+use Rattle.psac_open.specs.declared.refusal.Refusal.{Refusal}
+use Rattle.psac_open.specs.declared.refusal.Refusal.TheVariants as refusal
 use Rattle.psac_lang.specs.declared.fault.ParseFault.{ParseFault}
 use Rattle.psac_lang.specs.declared.fault.ParseFault.TheVariants as parse_faults
-use Rattle.psac_run.specs.Accept.{IsNone, MeansLine, Refuses, Breach}
+use Rattle.psac_open.specs.Accept.{IsNone, MeansLine, Refuses, Breach}
 
 -- what the parser answers to a program
 abbrev Only : List ℕ → Result Program ParseFault → Type 0

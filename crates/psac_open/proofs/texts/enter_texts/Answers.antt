@@ -1,7 +1,7 @@
 use Rattle.std.proofs.Common.{rules, arith}
 use Rattle.std.proofs.lemmas.List.{take_all}
-use Rattle.psac_run.proofs.Enter.{all_more, take_one}
-use Rattle.psac_run.proofs.texts.enter_texts.Goals as goal
+use Rattle.psac_open.proofs.Enter.{all_more, take_one}
+use Rattle.psac_open.proofs.texts.enter_texts.Goals as goal
 
 pub each-init : goal.each-init
 each-init c = record { added = search rules; each = search rules }

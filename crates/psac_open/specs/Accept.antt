@@ -4,8 +4,8 @@ use Rattle.psac_syntax.specs.declared.program.Program.{Program}
 use Rattle.psac_grammar.specs.Language.{IsProgram, SyntaxAt, LimitAt}
 use Rattle.psac_model.specs.Series.{Fault, meets}
 use Rattle.psac_report.specs.Refused.{syntax_line, limit_line, breach_line}
-use Rattle.psac_run.specs.declared.refusal.Refusal.{Refusal}
-use Rattle.psac_run.specs.declared.refusal.Refusal.TheVariants as refusal
+use Rattle.psac_open.specs.declared.refusal.Refusal.{Refusal}
+use Rattle.psac_open.specs.declared.refusal.Refusal.TheVariants as refusal
 
 -- a text of the grammar within the limits, whose program meets the series rule
 pub record IsAccepted (bytes : List ℕ) (p : Program) : Type 0 where

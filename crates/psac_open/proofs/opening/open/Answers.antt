@@ -1,6 +1,6 @@
 use Rattle.std.proofs.Common.{refl}
 use Rattle.psac_engine.specs.Engine.{world_in}
-use Rattle.psac_run.proofs.open.open.Goals as goal
+use Rattle.psac_open.proofs.opening.open.Goals as goal
 
 pub returns-clause-opened : goal.returns-clause-opened
 returns-clause-opened c =

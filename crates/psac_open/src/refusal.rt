@@ -22,7 +22,7 @@ pub fn refused(line: Result<Vec<u8>, NoMemory>) -> Refusal
 }
 
 impl From<NoMemory> for Refusal {
-    ghost use Rattle.psac_run.specs.declared.refusal.Refusal.TheVariants as refusal;
+    ghost use Rattle.psac_open.specs.declared.refusal.Refusal.TheVariants as refusal;
 
     ghost from_gives = { λ _ e. e ≡ refusal.NoMemory };
 

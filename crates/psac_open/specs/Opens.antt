@@ -5,7 +5,7 @@ use Rattle.psac_syntax.specs.declared.program.Program.{Program}
 use Rattle.psac_inputs.specs.Grid.{Grid}
 use Rattle.psac_inputs.specs.Texts.{Texts, all_added}
 use Rattle.psac_model.specs.Fresh.{World, world_of}
-use Rattle.psac_run.specs.Loads.{Loads, RefusesInput}
+use Rattle.psac_open.specs.Loads.{Loads, RefusesInput}
 
 -- the texts of the program enter the list first
 pub record Enters (p : Program) (ids : List TextId) (texts : Texts) : Type 0 where

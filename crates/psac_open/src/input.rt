@@ -1,8 +1,8 @@
 // The grid of an input.
 ghost use Rattle.std.specs.Prelude.{◌≡◌, ◌≤◌, ◌*◌, IfOk, IfErr, Ok, Err, ◌⊎◌};
 ghost use Rattle.psac_inputs.specs.Grid.{most_cells, room_for};
-ghost use Rattle.psac_run.specs.Accept.{MeansLine};
-ghost use Rattle.psac_run.specs.Loads.{Loads, RefusesInput, is_text_name, load_of};
+ghost use Rattle.psac_open.specs.Accept.{MeansLine};
+ghost use Rattle.psac_open.specs.Loads.{Loads, RefusesInput, is_text_name, load_of};
 
 use crate::refusal::{Refusal, refused};
 use psac_inputs::{Grid, InputFault, Interner, load_csv, load_lines};

@@ -5,8 +5,8 @@ use Rattle.psac_inputs.specs.Grid.{Grid}
 use Rattle.psac_model.specs.declared.ends.Caps.{Caps}
 use Rattle.psac_model.specs.Fresh.{World}
 use Rattle.psac_engine.specs.Engine.{IsOpened, world_in}
-use Rattle.psac_run.specs.declared.open.Opened.{Opened}
-use Rattle.psac_run.specs.Opens.{Opens}
+use Rattle.psac_open.specs.declared.opening.Opened.{Opened}
+use Rattle.psac_open.specs.Opens.{Opens}
 
 pub record Holds (p : Program) (name bytes : List ℕ) (rows : ℕ) (caps : Caps) (o : Opened) : Type 0 where
   pub world : World

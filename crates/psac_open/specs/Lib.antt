@@ -1,0 +1,5 @@
+pub mod Accept
+pub mod Loads
+pub mod Opens
+pub mod Views
+pub mod Loaded

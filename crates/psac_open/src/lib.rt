@@ -1,0 +1,19 @@
+//! What every mode begins and ends with: a program that is accepted, an input that is taken, the engine over both, what is
+//! written of others, and the status.
+#![tactic(auto)]
+
+mod ending;
+mod input;
+mod load;
+mod opening;
+mod program;
+mod refusal;
+mod status;
+mod texts;
+
+pub use ending::finish;
+pub use load::{MOST, load_named};
+pub use opening::{Opened, open};
+pub use program::accept;
+pub use refusal::Refusal;
+pub use status::{NO_MEMORY, Status};
