@@ -32,3 +32,9 @@ pub mod Wakes
 pub mod Readying
 pub mod Rooting
 pub mod Fitted
+pub mod Changing
+pub mod Visiting
+pub mod Layers
+pub mod Unsharing
+pub mod Forking
+pub mod Counted

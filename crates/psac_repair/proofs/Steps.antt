@@ -336,6 +336,6 @@ module _ (w : Setting Handle) (funcs : List Func) (Q : List Stmt → Type 0) (cl
       -- what a part before the rest leaves
       pub part_end : (t r : Rec Handle) (v u : ValueView) → Stood w funcs Q v (S t r) room body env heap base st end → IsApart (S t r) → Owned v r → Kept v u → (inner : ℕ) (rest : List Stmt) (over : Heap) → Here r inner rest here over mid end → (e : Ended) → Told w funcs Q now left here t v u base e → PartEnd w funcs Q t r st end.unwritten env v u base e
       part_end t r v u s apart ow k inner rest over l (Good new) told =
-          (inner, rest, here, over, writes new ++ base, mid, end, stood_next t r v u new s apart ow k told inner rest over l, λ x e kx t2. told_next t r v u new s apart ow k told x kx e t2, refl, told.0)
+          (inner, rest, here, over, writes new ++ base, mid, end, stood_next t r v u new s apart ow k told inner rest over l, λ x e kx t2. told_next t r v u new s apart ow k told x kx e t2, refl, told.0, owned_next t r v u new s apart ow k told inner rest over l)
       part_end t r v u s apart ow k inner rest over l (Fault kind line) told = told_stop t r v u kind line told
       part_end t r v u s apart ow k inner rest over l Other told = tt

@@ -18,3 +18,9 @@ pub mod WatchLaws
 pub mod FitLaws
 pub mod Counted
 pub mod Exchanged
+pub mod Unshared
+pub mod Taking
+pub mod Outcomes
+pub mod Changing
+pub mod Going
+pub mod Repairing

@@ -19,7 +19,7 @@ use Rattle.psac_trace.specs.Rights.{Heap, held, In, Within, Wider, Sees, Target,
 use Rattle.psac_repair.specs.Ended.{Ended, Good, Fault, Other, then_ended}
 use Rattle.psac_repair.specs.Wanted.{NewMade}
 use Rattle.psac_repair.specs.Scope.{Fills}
-use Rattle.psac_repair.specs.Stood.{Stood}
+use Rattle.psac_repair.specs.Stood.{Stood, Owned}
 
 -- on each heap that has the base, the new record comes of the old one; nothing of the base is written
 pub record Mends (w : Setting Handle) (funcs : List Func) (Q : List Stmt → Type 0) (base : Heap) (old new : Rec Handle) (end : End) : Type 0 where
@@ -62,7 +62,7 @@ module _ (w : Setting Handle) (funcs : List Func) (Q : List Stmt → Type 0) whe
   -- tells
   abbrev pub PartEnd : Rec Handle → Rec Handle → Standing → List ℕ → Env Handle → ValueView → ValueView → Heap → Ended → Type 0
   PartEnd part rest st left env v u base (Good new) =
-      (room : ℕ) × (body : List Stmt) × (here : Env Handle) × (heap : Heap) × (over : Heap) × (mid : Standing) × (end : Standing) × Stood w funcs Q u rest room body here heap over mid end × ((x : ValueView) (e : Ended) → Kept u x → Told mid end.unwritten here rest u x over e → Told st left env (S part rest) v x base (then_ended (S new) e)) × (over ≡ writes new ++ base) × Mends w funcs Q base part new Done
+      (room : ℕ) × (body : List Stmt) × (here : Env Handle) × (heap : Heap) × (over : Heap) × (mid : Standing) × (end : Standing) × Stood w funcs Q u rest room body here heap over mid end × ((x : ValueView) (e : Ended) → Kept u x → Told mid end.unwritten here rest u x over e → Told st left env (S part rest) v x base (then_ended (S new) e)) × (over ≡ writes new ++ base) × Mends w funcs Q base part new Done × Owned u rest
   PartEnd part rest st left env v u base (Fault k n) = Told st left env (S part rest) v u base (Fault k n)
   PartEnd part rest st left env v u base Other = Unit {0}
 

@@ -9,10 +9,13 @@ pub mod fits;
 pub mod laws;
 pub mod links;
 pub mod marks;
+pub mod outcome;
 pub mod present;
 pub mod sums;
 pub mod take;
 pub mod tally;
+pub mod visit;
 pub mod watched;
+pub mod world;
 
 pub use tally::Tally;

@@ -1,5 +1,5 @@
 //! What a block's reads see now.
-ghost use Rattle.std.specs.Prelude.{◌≡◌, ◌++◌, true, IfOk, OnOk, IfNone, IfSome, List};
+ghost use Rattle.std.specs.Prelude.{◌≡◌, ◌++◌, IfOk, OnOk, IfNone, IfSome, List};
 ghost use Rattle.psac_ops.specs.Value.{Value};
 ghost use Rattle.psac_ops.specs.Table.{same_value};
 ghost use Rattle.psac_ops.specs.declared.plain.Handle.{Handle};
@@ -9,7 +9,8 @@ ghost use Rattle.psac_record.specs.Kept.{reads_of};
 ghost use Rattle.psac_traced.specs.Mending.{unlike};
 ghost use Rattle.psac_trace.specs.Rights.{Sees};
 ghost use Rattle.psac_trace.specs.Asking.{Looked};
-ghost use Rattle.psac_repair.specs.Seen.{Known, SeenNow, Now};
+ghost use Rattle.psac_repair.specs.Seen.{Known, SeenNow};
+ghost use Rattle.psac_repair.specs.Changing.{Changed};
 ghost use Rattle.psac_repair.specs.Marks.{Present};
 ghost use Rattle.psac_traced.specs.Holds.{EachOf};
 
@@ -98,7 +99,7 @@ fn differ(reads: &[Seen], again: &[Seen]) -> bool
 }
 
 /// What a block reads now, where that isn't what it read.
-#[tactic(auto, using(crate::proofs::Sighted::now_of, crate::proofs::Sighted::same_present))]
+#[tactic(auto, using(crate::proofs::Changing::changed_now, crate::proofs::Sighted::same_present))]
 pub fn changed_reads(
     alloc: Global,
     values: &Values,
@@ -110,7 +111,7 @@ pub fn changed_reads(
     ensures table { pass.new.table ≡ pass.old.table }
     ensures looked { Looked pass.old.knows pass.new.knows }
     ensures same { IfOk result (λ found. IfNone found (EachOf (Present pass.old.knows) (reads_of reads.now))) }
-    ensures changed { IfOk result (λ found. IfSome found (λ again. Now pass.old.knows (reads_of reads.now) (reads_of again) × (unlike same_handle (reads_of reads.now) (reads_of again) ≡ true))) }
+    ensures changed { IfOk result (λ found. IfSome found (λ again. Changed pass.old.knows reads.now again)) }
 {
     let again = reads_now(alloc, values, pass, reads)?;
     if differ(reads, again.as_slice()) {
