@@ -38,3 +38,10 @@ pub mod Layers
 pub mod Unsharing
 pub mod Forking
 pub mod Counted
+pub mod Weighing
+pub mod Grafting
+pub mod Begun
+pub mod Starting
+pub mod Gathering
+pub mod Retold
+pub mod Redone

@@ -163,7 +163,7 @@ module _ (w : Setting Handle) (funcs : List Func) (Q : List Stmt → Type 0) (cl
     abbrev block : Rec Handle
     block = R level number saved reads t
 
-    abbrev reader_at : (v : ValueView) (room : ℕ) (body : List Stmt) (env : Env Handle) (heap base : Heap) (st end : Standing) → Stood w funcs Q v (S block r) room body env heap base st end → AtReader w funcs Q closed go reading level number saved reads t r room body env heap st end
+    abbrev pub reader_at : (v : ValueView) (room : ℕ) (body : List Stmt) (env : Env Handle) (heap base : Heap) (st end : Standing) → Stood w funcs Q v (S block r) room body env heap base st end → AtReader w funcs Q closed go reading level number saved reads t r room body env heap st end
     reader_at v room body env heap base st end s = at_reader w funcs Q closed go reading room body env heap st end level number saved reads t r apart (left_of_stood w funcs Q closed go reading v (S block r) room body env heap base st end s)
 
     module _ (v : ValueView) (room : ℕ) (body : List Stmt) (env : Env Handle) (heap base : Heap) (st end : Standing) (s : Stood w funcs Q v (S block r) room body env heap base st end) (o : AtReader w funcs Q closed go reading level number saved reads t r room body env heap st end) where
@@ -307,18 +307,18 @@ module _ (w : Setting Handle) (funcs : List Func) (Q : List Stmt → Type 0) (cl
       place : (b : ValueView) (room : ℕ) (body : List Stmt) (env : Env Handle) (heap base : Heap) (st end : Standing) → (o : AtReader w funcs Q closed go reading level number saved reads t r room body env heap st end) → (items ≡ o.items) × (first ≡ o.first)
       place b room body env heap base st end o = one o.stmt o.rest o.line o.items o.first o.is o.so
 
-      begun : (room : ℕ) (body : List Stmt) (env : Env Handle) (heap base : Heap) (st end : Standing) (s : Stood w funcs Q v (S block r) room body env heap base st end) (o : AtReader w funcs Q closed go reading level number saved reads t r room body env heap st end) → ReadBegins w o.now o.steps.names o.steps.inner_end o.steps.left saved (with_reads saved items again) base
+      pub begun : (room : ℕ) (body : List Stmt) (env : Env Handle) (heap base : Heap) (st end : Standing) (s : Stood w funcs Q v (S block r) room body env heap base st end) (o : AtReader w funcs Q closed go reading level number saved reads t r room body env heap st end) → ReadBegins w o.now o.steps.names o.steps.inner_end o.steps.left saved (with_reads saved items again) base
       begun room body env heap base st end s o =
           subst (λ z. ReadBegins w o.now o.steps.names o.steps.inner_end o.steps.left saved (with_reads saved z again) base) (sym (place v room body env heap base st end o).0)
           (o.steps.begins base again (scope_here v room body env heap base st end s o) (reads_over v room body env heap base st end s o again now))
 
-      ready_redo : (room : ℕ) (body : List Stmt) (env : Env Handle) (heap base : Heap) (st end : Standing) (s : Stood w funcs Q v (S block r) room body env heap base st end) (o : AtReader w funcs Q closed go reading level number saved reads t r room body env heap st end) → Ready w o.steps.names o.steps.inner_end.unwritten (with_reads saved items again) v base
+      pub ready_redo : (room : ℕ) (body : List Stmt) (env : Env Handle) (heap base : Heap) (st end : Standing) (s : Stood w funcs Q v (S block r) room body env heap base st end) (o : AtReader w funcs Q closed go reading level number saved reads t r room body env heap st end) → Ready w o.steps.names o.steps.inner_end.unwritten (with_reads saved items again) v base
       ready_redo room body env heap base st end s o =
           let b = begun room body env heap base st end s o in
           ready_from w o.steps.names o.steps.inner_end.unwritten (with_reads saved items again) v base b.scope s.ready.sees
           (λ m g. has_of w st end.unwritten env v base s.ready m (part_target w funcs Q closed go reading st end env o.now o.steps.mid saved o.steps.left o.seq m (b.out m g)))
 
-      meets_redo : (room : ℕ) (body : List Stmt) (env : Env Handle) (heap base : Heap) (st end : Standing) (o : AtReader w funcs Q closed go reading level number saved reads t r room body env heap st end) → series first o.steps.names ≡ Some o.steps.inner_end
+      pub meets_redo : (room : ℕ) (body : List Stmt) (env : Env Handle) (heap base : Heap) (st end : Standing) (o : AtReader w funcs Q closed go reading level number saved reads t r room body env heap st end) → series first o.steps.names ≡ Some o.steps.inner_end
       meets_redo room body env heap base st end o = subst (λ z. series z o.steps.names ≡ Some o.steps.inner_end) (sym (place v room body env heap base st end o).1) o.steps.meets
 
       -- the tracing run may begin

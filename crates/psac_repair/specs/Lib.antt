@@ -24,3 +24,4 @@ pub mod Outcomes
 pub mod Changing
 pub mod Going
 pub mod Repairing
+pub mod Rebuilt
