@@ -1,8 +1,7 @@
 -- The numbers of an outcome, from those of its parts.
-use Rattle.std.proofs.Common.{◌≡◌, List, [], ◌++◌, Result, Ok, Err, IfOk, if◌then◌else◌, refl, ap, sym, ◌∙◌, subst}
+use Rattle.std.proofs.Common.{◌≡◌, List, [], ◌++◌, Result, Ok, Err, IfOk, if◌then◌else◌, ap, sym, ◌∙◌, subst}
 use Rattle.psac_ops.specs.declared.plain.Handle.{Handle}
 use Rattle.psac_ops.specs.Named.{same_handle}
-use Rattle.psac_traced.specs.Rec.{Rec}
 use Rattle.psac_traced.specs.Mending.{Mending, mended, untouched, unlike, anew, beside, below}
 use Rattle.psac_traced.proofs.Kept.{kept_untouched}
 use Rattle.psac_record.specs.declared.parts.Reading.{Reading}
@@ -56,8 +55,7 @@ like_taken reads a b = ap (λ z. if z then a else b) (like_itself reads)
 pub counts_block : (c : Reading) (k u new : Kept) (off : List Kept) (inner told : Result Tally Stop) → new ≡ R c u → IfOk told (OneOf inner) → IfOk inner (Numbered k u off) → IfOk told (Numbered (R c k) new off)
 counts_block c k u new off inner (Ok t) e s x =
     let d = subst (λ z. IfOk z (Numbered k u off)) s.1 x in
-    subst (λ z. Numbered (R c k) z off t) (sym e)
-    (
+    subst (λ z. Numbered (R c k) z off t) (sym e) (
       s.2 (mended same_handle (bare k) (bare u)) d.0 ∙ ap tally_of (sym (like_mended (reads_of c.reads) (anew (bare k) (bare u)) (below (mended same_handle (bare k) (bare u))))),
       d.1 ∙ sym (like_taken (reads_of c.reads) (added k []) (taken k u)),
     )

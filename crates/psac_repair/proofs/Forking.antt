@@ -1,18 +1,12 @@
 -- Both sides of a par, each on its part of the pass: what each begins with, and what both leave once they are joined.
-use Rattle.std.proofs.Common.{◌≡◌, ℕ, ◌+◌, List, ◌∷◌, [], ◌++◌, Option, Some, refl, ap, ◌∙◌, inl, inr, ⊎_elim, arith}
+use Rattle.std.proofs.Common.{◌≡◌, ℕ, ◌+◌, List, ◌∷◌, [], ◌++◌, Option, Some, ap, inl, inr, arith}
 use Rattle.psac_ops.specs.declared.plain.Handle.{Handle}
-use Rattle.psac_slots.specs.Handles.{Member}
-use Rattle.psac_slots.proofs.Pairs.{member_cases, member_left, member_right}
 use Rattle.psac_values.specs.declared.view.ValueView.{ValueView}
 use Rattle.psac_values.specs.Steps as values
-use Rattle.psac_values.specs.Knowing as knowing
 use Rattle.psac_readers.specs.Steps as readers
-use Rattle.psac_marks.specs.declared.view.SharedView.{SharedView}
 use Rattle.psac_marks.specs.declared.view.MarksView.{MarksView}
-use Rattle.psac_marks.specs.Marked.{HasOwn}
 use Rattle.psac_marks.specs.Steps as marks
-use Rattle.psac_marks.specs.Passes as passes
-use Rattle.psac_marks.specs.Passes.{IsKept, IsDropped, Owns, Bare}
+use Rattle.psac_marks.specs.Passes.{Owns, Bare}
 use Rattle.psac_model.specs.declared.ends.CapKind.{CapKind}
 use Rattle.psac_model.specs.declared.ends.CapKind.TheVariants as cap
 use Rattle.psac_traced.specs.Rec as rec
@@ -26,12 +20,10 @@ use Rattle.psac_repair.specs.Outcomes.{OnGood}
 use Rattle.psac_repair.specs.Laws.{Program, PartOf}
 use Rattle.psac_repair.specs.Divided.{neither, writes_slot, has_node, outside}
 use Rattle.psac_repair.specs.Planted.{slots, Planted, Passed}
-use Rattle.psac_repair.specs.Linked.{LinksOnce}
-use Rattle.psac_repair.specs.LinkLaws.{left_pass, right_pass}
-use Rattle.psac_repair.specs.WatchLaws.{left_view, right_view}
 use Rattle.psac_repair.specs.FitLaws.{Unspared}
 use Rattle.psac_repair.specs.Taking.{taken, given}
-use Rattle.psac_repair.specs.Going.{Views, claims_of, Roomy, Lasting, Beside, Went, After, WentBelow, AfterBelow}
+use Rattle.psac_repair.specs.Going.{Views, claims_of, Roomy, Beside, Went, WentBelow, AfterBelow}
+use Rattle.psac_repair.specs.WalkLaws.{left_side, right_side, Joins}
 use Rattle.psac_repair.proofs.Adding.{sides_add, sides_stand}
 use Rattle.psac_repair.proofs.Sides.{needs_fork_left, needs_fork_right, owned_fork_left, owned_fork_right}
 use Rattle.psac_repair.proofs.Passing.{passed_none, passed_then}
@@ -57,27 +49,16 @@ passed_whole : (m q : MarksView) (us : List ℕ) (n : Handle) (below : List ℕ)
 passed_whole m q us n below a =
     passed_then m m q us us (n.slot ∷ us) (n.slot ∷ below) [] below (passed_none m us []) a (λ x i. absurd i) (λ x i. inr i) (λ x i. inl i) (λ x i. elim i [ inl e ↦ inr (inl e) | inr j ↦ inl j ])
 
--- what a join tells of two passes
-pub record Joins (a c j : Views) : Type 0 where
-  pub values : j.values ≡ values.joined a.values c.values
-  pub united : knowing.United a.values c.values j.values
-  pub readers : j.readers ≡ readers.joined a.readers c.readers
-  pub once : LinksOnce j.readers
-  pub marks : j.marks ≡ marks.joined a.marks c.marks
-  pub united_marks : passes.United a.marks c.marks j.marks
-  pub dropped : (x : ℕ) → IsDropped j.marks x → HasOwn j.marks.own x
-  pub kept : (e : SharedView) → Member e j.marks.shared → IsKept j.marks e.node.slot
-
 module _ (g : Program) (us : List ℕ) (above : Option Handle) (n : Handle) (l k rest : Kept) (p : Views) (b : Here g us above (rec.S (bare (P n l k)) (bare rest)) (P n l k) p) where
   abbrev pub outer : List ℕ
   outer = n.slot ∷ us
 
   -- both parts of the pass
   abbrev pub left_part : Views
-  left_part = record { values = left_view l k p.values; readers = left_pass l k p.readers; marks = marks.left_of (outside p.marks l k) (has_node k) p.marks }
+  left_part = left_side l k p
 
   abbrev pub right_part : Views
-  right_part = record { values = right_view l k p.values; readers = right_pass l k p.readers; marks = marks.right_of (outside p.marks l k) (has_node k) p.marks }
+  right_part = right_side l k p
 
   unspared_l : Unspared p.values l
   unspared_l s i = b.aged s (used_by (bare l) (bare (S n l k)) (touch_first n l k) s i)

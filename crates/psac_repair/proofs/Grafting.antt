@@ -211,8 +211,7 @@ families_made n par (P c t r) once over closed = (
 families_made n par (R b t) once over closed =
     let as_step : Closed n par (S b.node t E) = λ x o i j f k. let a = closed x o (block_slots t x i) j f k in (a.0, block_nodes t a.0 a.1, a.2) in
     let as_once : Once (S b.node t E) = (λ i. once.0 (end_left b.node.slot (slots t) i), λ x i j. j, once.1, tt) in
-    let as_over : Over par (S b.node t E) = λ h e i. over h e (block_slots t h.slot i) in
-    (
+    let as_over : Over par (S b.node t E) = λ h e i. over h e (block_slots t h.slot i) in (
       λ o j f k. end_left o.node.slot (tops t) (node_children n par b.node t E as_once as_over as_step o j f k),
       families_made n (Some b.node) t once.1 (over_some b.node t once.0) (closed_left n par b.node t E as_once as_over as_step),
     )

@@ -1,16 +1,15 @@
 -- The walk, call by call: what each call needs, from what its caller needs, and what the caller leaves, from what its calls leave.
-use Rattle.std.proofs.Common.{◌≡◌, ℕ, ◌+◌, ◌-◌, if◌then◌else◌, Bool, true, false, List, [], ◌∷◌, ◌++◌, Option, Some, refl, ap, sym, ◌∙◌, subst, inl, inr, ⊎_elim}
+use Rattle.std.proofs.Common.{◌≡◌, ℕ, ◌+◌, ◌-◌, if◌then◌else◌, true, false, List, [], ◌∷◌, ◌++◌, Option, Some, refl, ap, sym, ◌∙◌, subst, inl, inr, ⊎_elim}
 use Rattle.psac_ops.specs.declared.plain.Handle.{Handle}
 use Rattle.psac_ops.specs.declared.plain.Plain.{Plain}
 use Rattle.psac_ops.specs.Named.{value_of, same_handle}
 use Rattle.psac_syntax.specs.declared.program.Stmt.{Stmt}
 use Rattle.psac_slots.specs.Handles.{Member}
-use Rattle.psac_slots.specs.Claiming.{times}
 use Rattle.psac_slots.proofs.Pairs.{member_left, member_right, member_cases}
 use Rattle.psac_values.specs.declared.view.ValueView.{ValueView}
 use Rattle.psac_marks.specs.declared.view.MarksView.{MarksView}
 use Rattle.psac_marks.specs.Steps.{cleared}
-use Rattle.psac_marks.specs.Passes.{IsBusy, Owns, Bare}
+use Rattle.psac_marks.specs.Passes.{Owns, Bare}
 use Rattle.psac_model.specs.declared.ends.CapKind.{CapKind}
 use Rattle.psac_model.specs.declared.ends.CapKind.TheVariants as cap
 use Rattle.psac_traced.specs.Rec as rec
@@ -26,8 +25,8 @@ use Rattle.psac_trace.proofs.Claims.{claims_none, claims_then}
 use Rattle.psac_trace.proofs.Views.{kept_same, kept_then}
 use Rattle.psac_record.specs.declared.parts.Reading.{Reading}
 use Rattle.psac_record.specs.Kept.{Kept, E, A, W, S, P, R, Stands, bare, links_of, reads_of, all_of, added, env_of}
-use Rattle.psac_repair.specs.Ended.{Ended, Good, Fault, Other, then_ended, both_ended, is_other}
-use Rattle.psac_repair.specs.Outcomes.{OnGood, is_body, is_good, pair_ended, block_round}
+use Rattle.psac_repair.specs.Ended.{Ended, Good, Fault, Other, then_ended, both_ended}
+use Rattle.psac_repair.specs.Outcomes.{is_body, is_good, pair_ended, block_round}
 use Rattle.psac_repair.specs.Scope.{GoesAlong, ReadsAlong}
 use Rattle.psac_repair.specs.Marks.{Present}
 use Rattle.psac_repair.specs.Seen.{Known}
@@ -39,27 +38,28 @@ use Rattle.psac_laws.proofs.Places.{test_or, not_both}
 use Rattle.psac_trace.proofs.Heaps.{in_front, in_back}
 use Rattle.psac_traced.specs.Rec.{writes}
 use Rattle.psac_repair.proofs.Forked.{Touches, touch_slot, slot_touch}
-use Rattle.psac_repair.specs.Laws.{Program, TellsOf, PartOf, NeedsOf}
-use Rattle.psac_repair.specs.Planted.{slots, NoneMarked, Planted, Passed, Replanted, Halves}
+use Rattle.psac_repair.specs.Laws.{Program, TellsOf, PartOf}
+use Rattle.psac_repair.specs.Planted.{slots, NoneMarked, Planted, Passed}
 use Rattle.psac_repair.specs.Taking.{taken, given}
 use Rattle.psac_repair.specs.Taken.{indexes}
-use Rattle.psac_repair.specs.Rewired.{Wired, Relinks, Rewired, Ordered}
+use Rattle.psac_repair.specs.Rewired.{Wired, Relinks, Ordered}
 use Rattle.psac_repair.specs.Watched.{Woken}
-use Rattle.psac_repair.specs.Going.{Views, claims_of, Before, Lasting, Beside, Went, After, WentBelow, AfterBelow, Clears}
+use Rattle.psac_repair.specs.Going.{Views, claims_of, Lasting, Beside, Went, After, WentBelow, AfterBelow}
+use Rattle.psac_repair.specs.WalkLaws as walk
 use Rattle.psac_repair.proofs.Adding.{quiet_kept, made_adds, wrote_adds, inner_adds, rest_adds, block_adds, turns_add}
 use Rattle.psac_repair.proofs.Along.{goes_along, reads_along}
-use Rattle.psac_repair.proofs.Tells.{tells_end, needs_made, needs_wrote, needs_rest, needs_inner, needs_block, tells_stop, needs_left, needs_second, owned_right}
+use Rattle.psac_repair.proofs.Tells.{needs_made, needs_wrote, needs_rest, needs_inner, needs_block, tells_stop, needs_left, needs_second, owned_right}
 use Rattle.psac_repair.proofs.Passing.{passed_none, passed_then, passed_cleared}
 use Rattle.psac_repair.proofs.Planting.{replanted_kept, planted_made, replanted_made, planted_wrote, replanted_wrote, planted_part, planted_rest, halves_turn, planted_pair, replanted_pair, step_owns, step_bare, replanted_step, planted_inner, block_owns, block_bare, replanted_block}
-use Rattle.psac_repair.proofs.Linking.{relinked_none, relinked_then}
+use Rattle.psac_repair.proofs.Linking.{relinked_none}
 use Rattle.psac_repair.proofs.Rewiring.{wired_made, wired_wrote, rewired_made, rewired_wrote, rewired_kept, index_left, rewired_as}
-use Rattle.psac_repair.proofs.Wiring.{steps_wire, turns_wire, blocks_wire}
-use Rattle.psac_repair.proofs.Wakes.{nothing_woke, outside_woke, steps_watch, turns_watch, steady_part}
+use Rattle.psac_repair.proofs.Wiring.{steps_wire, blocks_wire}
+use Rattle.psac_repair.proofs.Wakes.{nothing_woke, outside_woke, steps_watch, steady_part}
 use Rattle.psac_repair.proofs.Unread.{unread_behind, unread_beside}
-use Rattle.psac_repair.proofs.Visiting.{given_in, made_unread, all_append, unshared_on}
-use Rattle.psac_repair.proofs.Dividing.{pair_planted, pair_wired, pair_ordered}
+use Rattle.psac_repair.proofs.Visiting.{made_unread, all_append, unshared_on}
+use Rattle.psac_repair.proofs.Dividing.{pair_wired, pair_ordered}
 use Rattle.psac_repair.proofs.Quiet.{like_itself}
-use Rattle.psac_repair.proofs.Visiting.{on_good, good_then}
+use Rattle.psac_repair.proofs.Visiting.{good_then}
 
 -- what lasts
 
@@ -187,13 +187,13 @@ module _ (g : Program) where
   reading = reads_along g.setting
 
   abbrev pub Here : List ℕ → Option Handle → Rec Handle → Kept → Views → Type 0
-  Here = Before (NeedsOf g) g.funcs
+  Here = walk.Here g
 
   abbrev pub Gone : List ℕ → Option Handle → Kept → Kept → Views → Views → Ended → Type 0
-  Gone us above k = After (TellsOf g (bare k)) us above k
+  Gone = walk.Gone g
 
   abbrev pub PartGone : List ℕ → Option Handle → Kept → Kept → Kept → Views → Views → Ended → Type 0
-  PartGone us above rest k = After (PartOf g (bare k) (bare rest)) us above k
+  PartGone = walk.PartGone g
 
   -- a record that is kept
 

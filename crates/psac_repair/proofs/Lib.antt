@@ -37,6 +37,7 @@ pub mod Visiting
 pub mod Layers
 pub mod Unsharing
 pub mod Forking
+pub mod Called
 pub mod Counted
 pub mod Weighing
 pub mod Grafting

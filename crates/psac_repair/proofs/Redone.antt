@@ -369,7 +369,7 @@ redo_counts b t again (Ok new) o other r =
     let same = same_handle in
     let now : Reading = record b { reads = again } in
     let numbers : tally_of (anew (bare t) (bare u)) ≡ tally_of (mended same (bare (R b t)) (bare (R now u))) =
-        ap (λ z. tally_of (if z then anew (bare t) (bare u) else on_the_way (mended same (bare t) (bare u)))) (sym other) in
+    ap (λ z. tally_of (if z then anew (bare t) (bare u) else on_the_way (mended same (bare t) (bare u)))) (sym other) in
     let off : added t [] ≡ taken (R b t) (R now u) = ap (λ z. if z then added t [] else taken t u) (sym other) in
     subst (λ z. IfOk z (λ y. (y ≡ tally_of (mended same (bare (R b t)) (rec_of o.tree))) × (dropped_of o.dropped ≡ taken (R b t) (kept_of o.tree)))) (sym a.1)
     (subst (λ (z : Kept). (tally_of (anew (bare t) (bare u)) ≡ tally_of (mended same (bare (R b t)) (bare z))) × (dropped_of o.dropped ≡ taken (R b t) z)) (sym a.0) (numbers, r.dropped ∙ off))

@@ -1,5 +1,5 @@
 -- What a pass shares isn't its own, also on both sides of a fork.
-use Rattle.std.proofs.Common.{◌≡◌, ◌&&◌, ℕ, Bool, true, false, not, map, refl, ap, sym, ◌∙◌, ⊎_elim}
+use Rattle.std.proofs.Common.{◌≡◌, ℕ, Bool, true, false, not, map, refl, ap, sym, ◌∙◌, ⊎_elim}
 use Rattle.std.specs.Prelude.{filter}
 use Rattle.psac_slots.specs.Handles.{Member}
 use Rattle.psac_slots.specs.Divided.{stays, goes, lends}

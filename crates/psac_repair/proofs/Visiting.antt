@@ -19,7 +19,7 @@ use Rattle.psac_laws.specs.Standing.{Standing}
 use Rattle.psac_traced.specs.Rec as rec
 use Rattle.psac_traced.specs.Rec.{Rec}
 use Rattle.psac_raise.specs.Raise.{LeadsIn}
-use Rattle.psac_trace.specs.Rights.{Heap, Ready}
+use Rattle.psac_trace.specs.Rights.{Heap}
 use Rattle.psac_trace.specs.Grown.{MoreClaims}
 use Rattle.psac_record.specs.declared.parts.Seen.{Seen}
 use Rattle.psac_ops.specs.Named.{same_handle}

@@ -23,5 +23,6 @@ pub mod Taking
 pub mod Outcomes
 pub mod Changing
 pub mod Going
+pub mod WalkLaws
 pub mod Repairing
 pub mod Rebuilt

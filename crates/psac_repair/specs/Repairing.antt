@@ -1,33 +1,23 @@
 -- What the calls of a repair need and leave.
-use Rattle.std.specs.Prelude.{◌≡◌, ℕ, true, List, ◌∷◌, map, Option, Some, IfOk, Result, slice_get}
+use Rattle.std.specs.Prelude.{◌≡◌, ℕ, List, ◌∷◌, Option, Some, slice_get}
 use Rattle.psac_ops.specs.declared.plain.Handle.{Handle}
-use Rattle.psac_ops.specs.Named.{same_handle}
 use Rattle.psac_syntax.specs.declared.program.Stmt.{Stmt, out-Stmt}
 use Rattle.psac_syntax.specs.declared.program.Stmt.TheOpen.{Stmt-F}
 use Rattle.psac_syntax.specs.declared.program.ReadItem.{ReadItem}
 use Rattle.psac_values.specs.declared.view.ValueView.{ValueView}
 use Rattle.psac_fork.specs.declared.tables.Pass.{Pass}
-use Rattle.psac_model.specs.declared.ends.Work.{Work}
 use Rattle.psac_model.specs.Expression.{Setting}
 use Rattle.psac_traced.specs.Rec.{Rec, S}
 use Rattle.psac_traced.specs.Bodies.{IsCode}
-use Rattle.psac_traced.specs.Mending.{mended, unlike, work_of}
-use Rattle.psac_record.specs.declared.parts.Seen.{Seen}
-use Rattle.psac_record.specs.declared.parts.Reading.{Reading}
-use Rattle.psac_record.specs.Kept.{Kept, bare, reads_of, stands}
-use Rattle.psac_record.specs.Shown.{kept_of, rec_of}
-use Rattle.psac_record.specs.Dropped.{dropped_of}
+use Rattle.psac_record.specs.Kept.{Kept, bare}
+use Rattle.psac_record.specs.Shown.{kept_of}
 use Rattle.psac_trace.specs.Asking.{setting_on}
-use Rattle.psac_repair.specs.declared.outcome.Stop.{Stop}
 use Rattle.psac_repair.specs.declared.outcome.Outcome.{Outcome}
 use Rattle.psac_repair.specs.declared.world.Code.{Code}
 use Rattle.psac_repair.specs.declared.world.World.{World}
 use Rattle.psac_repair.specs.Ended.{Ended}
-use Rattle.psac_repair.specs.Mends.{Needs, Tells, TellsPart}
-use Rattle.psac_repair.specs.Seen.{Now}
-use Rattle.psac_repair.specs.Tallied.{tally_of, capped_work}
-use Rattle.psac_repair.specs.Outcomes.{end_of, ended_by}
-use Rattle.psac_repair.specs.Taking.{taken}
+use Rattle.psac_repair.specs.Mends.{Needs, TellsPart}
+use Rattle.psac_repair.specs.Outcomes.{end_of}
 use Rattle.psac_repair.specs.Going.{Views, views, Before, After}
 
 abbrev pub setting_of : World → Setting Handle
@@ -45,23 +35,12 @@ IsIndexed g =
 abbrev pub NeedsIn : World → Rec Handle → ValueView → Type 0
 NeedsIn g = Needs (setting_of g) g.funcs.now (Inside g)
 
-abbrev pub TellsIn : World → Rec Handle → ValueView → ValueView → Ended → Type 0
-TellsIn g = Tells (setting_of g) g.funcs.now (Inside g)
-
 abbrev pub PartIn : World → Rec Handle → Rec Handle → ValueView → ValueView → Ended → Type 0
 PartIn g = TellsPart (setting_of g) g.funcs.now (Inside g)
 
 -- where a record stands with these nodes outside, below this one
 abbrev pub BeforeIn : World → List ℕ → Option Handle → Rec Handle → Kept → Views → Type 0
 BeforeIn g = Before (NeedsIn g) g.funcs.now
-
--- a call on a record needs, and leaves
-abbrev pub Begins : World → Kept → Pass → Type 0
-Begins g k p = IsIndexed g × (us : List ℕ) × (above : Option Handle) × BeforeIn g us above (bare k) k (views p)
-
-abbrev pub Leaves : World → Kept → Kept → Pass → Pass → Ended → Type 0
-Leaves g k new p q e =
-    (us : List ℕ) (above : Option Handle) → BeforeIn g us above (bare k) k (views p) → After (TellsIn g (bare k)) us above k new (views p) (views q) e
 
 -- a call on a part before the rest of its body
 abbrev pub BeginsPart : World → Kept → Kept → Pass → Type 0
@@ -71,15 +50,5 @@ abbrev pub LeavesPart : World → Kept → Kept → Kept → Pass → Pass → E
 LeavesPart g k rest new p q e =
     (us : List ℕ) (above : Option Handle) → BeforeIn g us above (S (bare k) (bare rest)) k (views p) → After (PartIn g (bare k) (bare rest)) us above k new (views p) (views q) e
 
-abbrev pub Left : World → Kept → Pass → Pass → Outcome → Type 0
-Left g k p q o = Leaves g k (kept_of o.tree) p q (end_of o)
-
 abbrev pub LeftPart : World → Kept → Kept → Pass → Pass → Outcome → Type 0
 LeftPart g k rest p q o = LeavesPart g k rest (kept_of o.tree) p q (end_of o)
-
--- the record that a repair left
-abbrev pub TreeLeft : World → Kept → Kept → Pass → Pass → Result Work Stop → Type 0
-TreeLeft g k new p q told = Leaves g k new p q (ended_by told (bare new))
-
-abbrev pub Worked : Kept → Kept → List Kept → Result Work Stop → Type 0
-Worked k new dropped told = IfOk told (λ work. (work ≡ capped_work (work_of (mended same_handle (bare k) (bare new)))) × (dropped ≡ taken k new))

@@ -23,8 +23,7 @@ pub record NewMade (v u : ValueView) (ms : List Handle) : Type 0 where
   pub lacked : (m : Handle) → Contains ms m → Lacks v m.slot
   pub has : (m : Handle) → Contains ms m → Has u m
 
--- what the pass had keeps its words, but for destinations of the statements. A tracing run doesn't tell it yet: what it is to
--- write apart from what it has, it leaves alone, also where it stops
+-- what the pass had keeps its words, but for destinations of the statements
 abbrev pub Unchanged : Standing → List ℕ → Env Handle → ValueView → ValueView → Type 0
 Unchanged st left env v u = (m : Handle) (x : Value Handle) → Has v m → (Target st left env m → ⊥) → Sees v m x → Sees u m x
 

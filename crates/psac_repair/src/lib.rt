@@ -1,5 +1,5 @@
-//! The parts of a record's repair: what a block that is marked read against what is there now, taking a subtree off, the
-//! division at a par, and clearing marks on the way up.
+//! The steps of a record's repair: what a block that is marked read against what is there now, running a block again, taking a
+//! subtree off, the division at a par, and clearing marks on the way up.
 #![tactic(auto)]
 
 pub mod counts;
@@ -17,6 +17,7 @@ pub mod sums;
 pub mod take;
 pub mod tally;
 pub mod visit;
+pub mod walk;
 pub mod watched;
 pub mod world;
 

@@ -58,11 +58,7 @@ fn add_olds(env: &[Binding], tree: &Record, olds: &mut Vec<Handle>) -> Result<()
 }
 
 /// The modifiables that a record wrote and that stand in an environment that is older than the record.
-pub fn olds_of(
-    alloc: Global,
-    env: &[Binding],
-    tree: &Record,
-) -> Result<Vec<Handle>, AllocError>
+pub fn olds_of(alloc: Global, env: &[Binding], tree: &Record) -> Result<Vec<Handle>, AllocError>
     ensures { IfOk result (λ olds. Olds olds.items (env_of env.now) (kept_of tree.now)) }
 {
     let mut olds = Vec::new(alloc);

@@ -5,7 +5,6 @@ ghost use Rattle.psac_ops.specs.Named.{value_of as plain_value};
 ghost use Rattle.psac_traced.specs.Rec as rec;
 ghost use Rattle.psac_traced.specs.Rec.{Rec};
 ghost use Rattle.psac_traced.specs.Mending.{Mending, beside as both, below as on_the_way};
-ghost use Rattle.psac_record.specs.Dropped.{dropped_of};
 ghost use Rattle.psac_record.specs.Kept as kept;
 ghost use Rattle.psac_record.specs.Kept.{Kept};
 ghost use Rattle.psac_record.specs.Shown.{kept_of, rec_of};

@@ -80,7 +80,7 @@ returns-clause-left g c =
     let w = setting_of g0 in
     let level : c.deref-5.result.now.reading.level ≡ b.level = ap (λ z. z.reading.level) c.deref-5.ensures in
     let left = subst (λ (z : Handle). Leaves w (traced w g0.funcs.now (levels - b.level)) (cut_short w g0.funcs.now (levels - b.level)) olds g0.tables.now code.body.now env (Some z) q n (ended_of k.0 ran)) node
-        (subst (λ (z : ℕ). Leaves w (traced w g0.funcs.now (levels - z)) (cut_short w g0.funcs.now (levels - z)) olds g0.tables.now code.body.now env (Some c.deref-3.result.now.reading.node) q n (ended_of k.0 ran)) level k.1) in
+    (subst (λ (z : ℕ). Leaves w (traced w g0.funcs.now (levels - z)) (cut_short w g0.funcs.now (levels - z)) olds g0.tables.now code.body.now env (Some c.deref-3.result.now.reading.node) q n (ended_of k.0 ran)) level k.1) in
     redo_left g0 b t rest p c.args.again c.requires.changed need.0 code found env env_is olds are q c.bared-pass.ensures.of off n ran c.replaced.result c.replaced.ensures k.0 left
 
 pub returns-clause-counts : goal.returns-clause-counts
