@@ -24,12 +24,12 @@ looked_begins g us above stood k p q a b =
 
 pub looked_leaves : LookedLeaves
 looked_leaves g us above k new p q x e a b =
-    looked_after (NeedsOf g) g.funcs us above (bare k) k p a.0 (TellsOf g (bare k)) new x e (tells_looked p.values a.0 g.setting g.funcs (Q g) (bare k) x.values e)
+    looked_after (NeedsOf g) g.funcs us above (bare k) k p a.0 (TellsOf g (bare k)) new x e (λ drawn. tells_looked p.values a.0 g.setting g.funcs (Q g) (bare k) x.values drawn e)
     (subst (λ z. Gone g us above k new z x e) a.1 b)
 
 pub part_looked_leaves : PartLookedLeaves
 part_looked_leaves g us above k rest new p q x e a b =
-    looked_after (NeedsOf g) g.funcs us above (bare k) k p a.0 (PartOf g (bare k) (bare rest)) new x e (rest_looked p.values a.0 g.setting g.funcs (Q g) (bare k) (bare rest) x.values e)
+    looked_after (NeedsOf g) g.funcs us above (bare k) k p a.0 (PartOf g (bare k) (bare rest)) new x e (λ drawn. rest_looked p.values a.0 g.setting g.funcs (Q g) (bare k) (bare rest) x.values drawn e)
     (subst (λ z. PartGone g us above rest k new z x e) a.1 b)
 
 pub made_goes : MadeGoes

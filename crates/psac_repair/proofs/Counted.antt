@@ -12,7 +12,7 @@ use Rattle.psac_repair.specs.Tallied.{tally_of}
 use Rattle.psac_repair.specs.Taking.{taken}
 use Rattle.psac_repair.proofs.Quiet.{like_itself}
 use Rattle.psac_repair.proofs.Tells.{same_test}
-use Rattle.psac_repair.proofs.Layers.{taken_same}
+use Rattle.psac_repair.proofs.Replacing.{taken_same}
 
 -- these are the numbers between both records, and this was taken off
 abbrev pub Numbered : Kept → Kept → List Kept → Tally → Type 0

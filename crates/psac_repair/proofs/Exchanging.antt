@@ -100,7 +100,7 @@ exchanged_block b t u gone made a =
     }
 
 -- one subtree
-one_added : {X : Type 0} (f : Kept → List X) → f E ≡ [] → (k : Kept) → all_of f (added k []) ≡ f k
+pub one_added : {X : Type 0} (f : Kept → List X) → f E ≡ [] → (k : Kept) → all_of f (added k []) ≡ f k
 one_added f none E = sym none
 one_added f none (A m k) = append-nil (f (A m k))
 one_added f none (W m x k) = append-nil (f (W m x k))

@@ -1,8 +1,8 @@
 -- The walk, call by call: what each call needs, from what its caller needs, and what the caller leaves, from what its calls leave.
-use Rattle.std.proofs.Common.{◌≡◌, ℕ, ◌+◌, ◌-◌, if◌then◌else◌, true, false, List, [], ◌∷◌, ◌++◌, Option, Some, refl, ap, sym, ◌∙◌, subst, inl, inr, ⊎_elim}
+use Rattle.std.proofs.Common.{◌≡◌, ℕ, ◌+◌, ◌-◌, true, false, List, [], ◌∷◌, ◌++◌, Option, Some, None, length, refl, ap, sym, ◌∙◌, subst, inl, inr, ⊎_elim, arith}
 use Rattle.psac_ops.specs.declared.plain.Handle.{Handle}
 use Rattle.psac_ops.specs.declared.plain.Plain.{Plain}
-use Rattle.psac_ops.specs.Named.{value_of, same_handle}
+use Rattle.psac_ops.specs.Named.{value_of}
 use Rattle.psac_syntax.specs.declared.program.Stmt.{Stmt}
 use Rattle.psac_slots.specs.Handles.{Member}
 use Rattle.psac_slots.proofs.Pairs.{member_left, member_right, member_cases}
@@ -17,23 +17,22 @@ use Rattle.psac_traced.specs.Rec.{Rec}
 use Rattle.psac_traced.specs.Bodies.{IsCode}
 use Rattle.psac_traced.specs.Holds.{EachOf, EachRead}
 use Rattle.psac_traced.specs.Parts.{IsClosed, IsBody}
-use Rattle.psac_traced.specs.Mending.{unlike}
 use Rattle.psac_traced.proofs.Bodies.{code_closed}
 use Rattle.psac_trace.specs.Rights.{Kept as Stays}
-use Rattle.psac_trace.specs.Grown.{MoreClaims}
+use Rattle.psac_trace.specs.Grown.{MoreClaims, nodes_in as handles_in}
 use Rattle.psac_trace.proofs.Claims.{claims_none, claims_then}
 use Rattle.psac_trace.proofs.Views.{kept_same, kept_then}
+use Rattle.psac_trace.proofs.Growing.{values_none, values_then}
 use Rattle.psac_record.specs.declared.parts.Reading.{Reading}
 use Rattle.psac_record.specs.Kept.{Kept, E, A, W, S, P, R, Stands, bare, links_of, reads_of, all_of, added, env_of}
-use Rattle.psac_repair.specs.Ended.{Ended, Good, Fault, Other, then_ended, both_ended}
-use Rattle.psac_repair.specs.Outcomes.{is_body, is_good, pair_ended, block_round}
+use Rattle.psac_repair.specs.Ended.{Ended, Good, Fault, Other, then_ended, both_ended, untried_ended}
+use Rattle.psac_repair.specs.Outcomes.{OnGood, is_body, is_good, pair_ended, block_round}
 use Rattle.psac_repair.specs.Scope.{GoesAlong, ReadsAlong}
 use Rattle.psac_repair.specs.Marks.{Present}
 use Rattle.psac_repair.specs.Seen.{Known}
 use Rattle.psac_repair.specs.Divided.{writes_slot}
 use Rattle.psac_trace.specs.Fit.{Rooted, is_spare}
 use Rattle.psac_model.specs.Fresh.{levels}
-use Rattle.psac_model.specs.Tree.{Reads}
 use Rattle.psac_laws.proofs.Places.{test_or, not_both}
 use Rattle.psac_trace.proofs.Heaps.{in_front, in_back}
 use Rattle.psac_traced.specs.Rec.{writes}
@@ -44,11 +43,15 @@ use Rattle.psac_repair.specs.Taking.{taken, given}
 use Rattle.psac_repair.specs.Taken.{indexes}
 use Rattle.psac_repair.specs.Rewired.{Wired, Relinks, Ordered}
 use Rattle.psac_repair.specs.Watched.{Woken}
+use Rattle.psac_repair.specs.Exchanged.{Replaced}
 use Rattle.psac_repair.specs.Going.{Views, claims_of, Lasting, Beside, Went, After, WentBelow, AfterBelow}
 use Rattle.psac_repair.specs.WalkLaws as walk
-use Rattle.psac_repair.proofs.Adding.{quiet_kept, made_adds, wrote_adds, inner_adds, rest_adds, block_adds, turns_add}
+use Rattle.psac_repair.proofs.Adding.{quiet_kept, made_adds, wrote_adds, inner_adds, rest_adds, block_adds, turns_add, untried_adds}
+use Rattle.psac_repair.proofs.Drawing.{no_draw, with_none, long_both}
+use Rattle.psac_repair.proofs.Filling.{full_then, full_round, full_untried, room_round, room_untried}
+use Rattle.psac_trace.proofs.Moving.{each_cap}
 use Rattle.psac_repair.proofs.Along.{goes_along, reads_along}
-use Rattle.psac_repair.proofs.Tells.{needs_made, needs_wrote, needs_rest, needs_inner, needs_block, tells_stop, needs_left, needs_second, owned_right}
+use Rattle.psac_repair.proofs.Tells.{needs_made, needs_wrote, needs_rest, needs_inner, needs_block, tells_stop, tells_cut, tells_nothing, part_nothing, needs_left, needs_second, owned_right}
 use Rattle.psac_repair.proofs.Passing.{passed_none, passed_then, passed_cleared}
 use Rattle.psac_repair.proofs.Planting.{replanted_kept, planted_made, replanted_made, planted_wrote, replanted_wrote, planted_part, planted_rest, halves_turn, planted_pair, replanted_pair, step_owns, step_bare, replanted_step, planted_inner, block_owns, block_bare, replanted_block}
 use Rattle.psac_repair.proofs.Linking.{relinked_none}
@@ -56,25 +59,74 @@ use Rattle.psac_repair.proofs.Rewiring.{wired_made, wired_wrote, rewired_made, r
 use Rattle.psac_repair.proofs.Wiring.{steps_wire, blocks_wire}
 use Rattle.psac_repair.proofs.Wakes.{nothing_woke, outside_woke, steps_watch, steady_part}
 use Rattle.psac_repair.proofs.Unread.{unread_behind, unread_beside}
-use Rattle.psac_repair.proofs.Visiting.{made_unread, all_append, unshared_on}
+use Rattle.psac_repair.proofs.Owning.{swapped_none, swapped_turn, owned_none, owned_then}
+use Rattle.psac_repair.proofs.Replacing.{like_is, taken_same, given_same, both_all}
+use Rattle.psac_repair.proofs.Replacing.{replaced_kept, replaced_made, replaced_wrote, replaced_block, replaced_parts, replaced_pair}
+use Rattle.psac_repair.proofs.Visiting.{made_unread, unshared_on}
 use Rattle.psac_repair.proofs.Dividing.{pair_wired, pair_ordered}
-use Rattle.psac_repair.proofs.Quiet.{like_itself}
 use Rattle.psac_repair.proofs.Visiting.{good_then}
 
 -- what lasts
 
-pub lasting_none : (p : Views) → Stays p.values p.values → Lasting p p
-lasting_none p s = record { stays = s; drew = λ c. 0; claims = λ c. claims_none (claims_of c p) }
+abbrev pub lasting_none : (p : Views) → Stays p.values p.values → Lasting p p
+lasting_none p s =
+    record {
+      stays = s;
+      drew = no_draw;
+      claims = λ c. claims_none (claims_of c p);
+      drawn = no_draw;
+      indexes = λ c. omega arith;
+      mods = [];
+      values = values_none p.values;
+      mods_drew = refl;
+      nodes = [];
+      gone_nodes = [];
+      swapped = swapped_none p.marks;
+      own = owned_none p.marks;
+      nodes_drew = refl;
+      shared = refl;
+    }
 
-pub lasting_then : (p q x : Views) → Lasting p q → Lasting q x → Lasting p x
+abbrev pub lasting_then : (p q x : Views) → Lasting p q → Lasting q x → Lasting p x
 lasting_then p q x a b =
     record {
       stays = kept_then p.values q.values x.values a.stays b.stays;
       drew = λ c. a.drew c + b.drew c;
       claims = λ c. claims_then (claims_of c p) (claims_of c q) (claims_of c x) (a.drew c) (b.drew c) (a.claims c) (b.claims c);
+      drawn = λ c. a.drawn c + b.drawn c;
+      indexes = λ c. (let d = a.indexes c in let e = b.indexes c in omega (arith, d, e));
+      mods = a.mods ++ b.mods;
+      values = values_then p.values q.values x.values a.mods b.mods a.stays b.stays a.values b.values;
+      mods_drew = long_both (a.drew cap.Mods) (b.drew cap.Mods) a.mods b.mods a.mods_drew b.mods_drew;
+      nodes = a.nodes ++ b.nodes;
+      gone_nodes = a.gone_nodes ++ b.gone_nodes;
+      swapped = swapped_turn p.marks q.marks x.marks a.gone_nodes b.gone_nodes a.nodes b.nodes a.swapped b.swapped;
+      own = owned_then p.marks q.marks x.marks a.nodes b.nodes a.own b.own;
+      nodes_drew = long_both (a.drew cap.Nodes) (b.drew cap.Nodes) a.nodes b.nodes a.nodes_drew b.nodes_drew;
+      shared = b.shared ∙ a.shared;
     }
 
-claims_cleared : (n : Handle) (p q : Views) (drew : CapKind → ℕ) → ((c : CapKind) → MoreClaims (claims_of c p) (claims_of c q) (drew c)) → (c : CapKind) → MoreClaims (claims_of c p) (claims_of c (record q { marks = cleared n.slot q.marks })) (drew c)
+-- what a call replaced, where something was made or written before
+abbrev Replaces : (p q : Views) → Kept → Kept → Lasting p q → Type 0
+Replaces p q k u a = Replaced k u a.mods (handles_in a.nodes) a.gone_nodes
+
+made_replaces : (p q : Views) (m : Handle) (k u : Kept) (a : Lasting p q) → Replaces p q k u a → Replaces p q (A m k) (A m u) a
+made_replaces p q m k u a = replaced_made a.mods (handles_in a.nodes) a.gone_nodes m k u
+
+wrote_replaces : (p q : Views) (m : Handle) (x : Plain) (k u : Kept) (a : Lasting p q) → Replaces p q k u a
+    → Replaces p q (W m x k) (W m x u) a
+wrote_replaces p q m x k u a = replaced_wrote a.mods (handles_in a.nodes) a.gone_nodes m x k u
+
+-- and another call behind it
+module _ (n : Handle) (t k u w : Kept) (p q x : Views) (a : Lasting p q) (b : Lasting q x) where
+  abbrev both : Lasting p x
+  both = lasting_then p q x a b
+
+  parts_replace : Replaces p q t u a → Replaces q x k w b → Replaces p x (S n t k) (S n u w) both
+  parts_replace = replaced_parts n t k u w a.mods b.mods a.nodes b.nodes a.gone_nodes b.gone_nodes
+
+pub claims_cleared : (n : Handle) (p q : Views) (drew : CapKind → ℕ) → ((c : CapKind) → MoreClaims (claims_of c p) (claims_of c q) (drew c))
+    → (c : CapKind) → MoreClaims (claims_of c p) (claims_of c (record q { marks = cleared n.slot q.marks })) (drew c)
 claims_cleared n p q drew f cap.Nodes = f cap.Nodes
 claims_cleared n p q drew f cap.Mods = f cap.Mods
 claims_cleared n p q drew f cap.Links = f cap.Links
@@ -116,33 +168,6 @@ beside_as us k j p q same free b =
 relinks_as : (k j : Kept) (gone made : List Stands) (p q : Views) → links_of k ≡ links_of j → Relinks p.readers q.readers k gone made → Relinks p.readers q.readers j gone made
 relinks_as k j gone made p q links b = record { relinked = b.relinked; once = b.once; gone_is = λ l i. subst (λ z. Member l (indexes z)) links (b.gone_is l i); entered = b.entered }
 
--- nothing was run again
-like_is : (reads : Reads Handle) (a b : List Kept) → (if unlike same_handle reads reads then a else b) ≡ b
-like_is reads a b = ap (λ z. if z then a else b) (like_itself reads)
-
-same_reads : (reads : Reads Handle) (a b : List Kept) → b ≡ [] → (if unlike same_handle reads reads then a else b) ≡ []
-same_reads reads a b e = like_is reads a b ∙ e
-
-pub taken_same : (k : Kept) → taken k k ≡ []
-taken_same E = refl
-taken_same (A m k) = taken_same k
-taken_same (W m v k) = taken_same k
-taken_same (S n t k) = ap (λ z. z ++ taken k k) (taken_same t) ∙ taken_same k
-taken_same (P n t k) = ap (λ z. z ++ taken k k) (taken_same t) ∙ taken_same k
-taken_same (R b t) = same_reads (reads_of b.reads) (added t []) (taken t t) (taken_same t)
-
-given_same : (k : Kept) → given k k ≡ []
-given_same E = refl
-given_same (A m k) = given_same k
-given_same (W m v k) = given_same k
-given_same (S n t k) = ap (λ z. z ++ given k k) (given_same t) ∙ given_same k
-given_same (P n t k) = ap (λ z. z ++ given k k) (given_same t) ∙ given_same k
-given_same (R b t) = same_reads (reads_of b.reads) (added t []) (given t t) (given_same t)
-
--- a part and the rest, or both sides, with what was run again in each
-pub both_all : (xs ys : List Kept) (a b : List Stands) → a ≡ all_of links_of xs → b ≡ all_of links_of ys → a ++ b ≡ all_of links_of (xs ++ ys)
-both_all xs ys a b e f = ap (λ z. z ++ b) e ∙ ap (λ z. all_of links_of xs ++ z) f ∙ sym (all_append links_of xs ys)
-
 -- none of what an old record wrote is a slot that a claim may give
 aged_on : (v u : ValueView) → u.fixed ≡ v.fixed → u.claims.list ≡ v.claims.list → (s : ℕ) → is_spare v.fixed v.claims.list s ≡ false → is_spare u.fixed u.claims.list s ≡ false
 aged_on v u f l s h = subst (λ z. is_spare z u.claims.list s ≡ false) (sym f) (subst (λ z. is_spare v.fixed z s ≡ false) (sym l) h)
@@ -150,23 +175,46 @@ aged_on v u f l s h = subst (λ z. is_spare z u.claims.list s ≡ false) (sym f)
 both_then : (u : Rec Handle) (e : Ended) → both_ended (Good u) e ≡ then_ended (rec.P u) e
 both_then u (Good w) = refl
 both_then u (Fault k n) = refl
-both_then u Other = refl
+both_then u (Other why) = refl
 
 pub both_is : (one two : Ended) → both_ended one two ≡ pair_ended rec.P one two
 both_is (Good a) (Good b) = refl
 both_is (Good a) (Fault k n) = refl
-both_is (Good a) Other = refl
+both_is (Good a) (Other why) = refl
 both_is (Fault k n) (Good b) = refl
 both_is (Fault k n) (Fault j m) = refl
-both_is (Fault k n) Other = refl
-both_is Other two = refl
+both_is (Fault k n) (Other why) = refl
+both_is (Other why) two = refl
 
 -- a node whose children are done is cleared
 pub rooted_cleared : (n : Handle) (m : MarksView) → Rooted m → Rooted (cleared n.slot m)
 rooted_cleared n m r = record { kept = r.kept; dropped = r.dropped; shared = r.shared; labels = r.labels }
 
-pub lasting_cleared : (n : Handle) (p q : Views) → Lasting p q → Lasting p (record q { marks = cleared n.slot q.marks })
-lasting_cleared n p q l = record { stays = l.stays; drew = l.drew; claims = claims_cleared n p q l.drew l.claims }
+abbrev pub lasting_cleared : (n : Handle) (p q : Views) → Lasting p q → Lasting p (record q { marks = cleared n.slot q.marks })
+lasting_cleared n p q l =
+    let x : Views = record q { marks = cleared n.slot q.marks } in
+    record {
+      stays = l.stays;
+      drew = l.drew;
+      claims = claims_cleared n p q l.drew l.claims;
+      drawn = l.drawn;
+      indexes = each_cap (λ c. length (claims_of c x).drawn ≡ length (claims_of c p).drawn + l.drawn c) (l.indexes cap.Nodes) (l.indexes cap.Mods) (l.indexes cap.Links);
+      mods = l.mods;
+      values = l.values;
+      mods_drew = l.mods_drew;
+      nodes = l.nodes;
+      gone_nodes = l.gone_nodes;
+      swapped = record { held = l.swapped.held; dropped = l.swapped.dropped };
+      own = l.own;
+      nodes_drew = l.nodes_drew;
+      shared = l.shared;
+    }
+
+-- where a side wasn't tried there is no record
+none_untried : (X : Type 0) (e : Ended) → OnGood (untried_ended e) X
+none_untried X (Good r) = tt
+none_untried X (Fault k n) = tt
+none_untried X (Other why) = tt
 
 pub woken_cleared : (n : Handle) (us : List ℕ) (p q : Views) → ((x : ℕ) → Member x us → n.slot ≡ x → ⊥) → Woken p.readers p.values q.values q.marks us → Woken p.readers p.values q.values (cleared n.slot q.marks) us
 woken_cleared n us p q out a =
@@ -197,13 +245,18 @@ module _ (g : Program) where
 
   -- a record that is kept
 
-  kept_any : (T : ValueView → ValueView → Ended → Type 0) (us : List ℕ) (above : Option Handle) (stood : Rec Handle) (k : Kept) (p : Views) → Here us above stood k p → NoneMarked p.marks (slots k) → T p.values p.values (Good (bare k)) → After T us above k k p p (Good (bare k))
+  kept_any : (T : ValueView → ValueView → (CapKind → ℕ) → Ended → Type 0) (us : List ℕ) (above : Option Handle) (stood : Rec Handle) (k : Kept) (p : Views)
+      → Here us above stood k p → NoneMarked p.marks (slots k) → T p.values p.values no_draw (Good (bare k))
+      → After T us above k k p p (Good (bare k))
   kept_any T us above stood k p b none tells =
       record {
         lasting = lasting_none p (kept_same p.values b.tidy);
         tells = tells;
+        room = b.room;
+        full = tt;
         gone = [];
         made = [];
+        links_drew = refl;
         relinks = record { relinked = relinked_none p.readers; once = b.wired.once; gone_is = λ l i. absurd i; entered = λ l i. absurd i };
         beside = record {
           room = b.room;
@@ -219,6 +272,7 @@ module _ (g : Program) where
           made_is = sym (ap (all_of links_of) (given_same k));
           woken = nothing_woke p.readers p.values p.marks us;
         };
+        replaced = replaced_kept k;
       }
 
   pub kept_after : (us : List ℕ) (above : Option Handle) (k : Kept) (p : Views) → Here us above (bare k) k p → NoneMarked p.marks (slots k) → EachRead (Present p.values) (bare k) → Gone us above k k p p (Good (bare k))
@@ -230,15 +284,34 @@ module _ (g : Program) where
   kept_pair us above n l k rest p b none reads =
       let same = kept_same p.values b.tidy in
       kept_any (PartOf g (bare (P n l k)) (bare rest)) us above (rec.S (bare (P n l k)) (bare rest)) (P n l k) p b none
-      (turns_add g p.values p.values p.values (bare l) (bare k) (bare rest) (Good (bare l)) (Good (bare k)) b.once b.owned.0.1 b.owned.1 same same refl
+      (turns_add g p.values p.values p.values (bare l) (bare k) (bare rest) no_draw no_draw no_draw (Good (bare l)) (Good (bare k)) b.once b.owned.0.1 b.owned.1 same same refl (with_none no_draw)
       (quiet_kept g p.values (bare l) b.tidy b.once.0.0 b.owned.0.0 reads.0)
       (quiet_kept g p.values (bare k) b.tidy b.once.0.1 b.owned.0.1 reads.1))
 
   pub kept_block : (us : List ℕ) (above : Option Handle) (c : Reading) (t rest : Kept) (p : Views) → Here us above (rec.S (bare (R c t)) (bare rest)) (R c t) p → NoneMarked p.marks (slots (R c t)) → EachRead (Present p.values) (bare (R c t)) → PartGone us above rest (R c t) (R c t) p p (Good (bare (R c t)))
   kept_block us above c t rest p b none reads =
       kept_any (PartOf g (bare (R c t)) (bare rest)) us above (rec.S (bare (R c t)) (bare rest)) (R c t) p b none
-      (block_adds g p.values p.values _ _ _ (reads_of c.reads) (bare t) (bare rest) (Good (bare t)) b.once reads.0 b.owned.1 (kept_same p.values b.tidy)
+      (block_adds g p.values p.values _ _ _ (reads_of c.reads) (bare t) (bare rest) no_draw (Good (bare t)) b.once reads.0 b.owned.1 (kept_same p.values b.tidy)
       (quiet_kept g p.values (bare t) b.tidy b.once.0 b.owned.0 reads.1))
+
+  -- memory was wanting before anything was done
+
+  pub undone_any : (T : ValueView → ValueView → (CapKind → ℕ) → Ended → Type 0) (us : List ℕ) (above : Option Handle) (stood : Rec Handle) (k new : Kept) (p : Views)
+      → Here us above stood k p → T p.values p.values no_draw (Other None) → After T us above k new p p (Other None)
+  undone_any T us above stood k new p b tells =
+      record {
+        lasting = lasting_none p (kept_same p.values b.tidy);
+        tells = tells;
+        room = tt;
+        full = tt;
+        gone = [];
+        made = [];
+        links_drew = refl;
+        relinks = record { relinked = relinked_none p.readers; once = b.wired.once; gone_is = λ l i. absurd i; entered = λ l i. absurd i };
+        beside = tt;
+        went = tt;
+        replaced = tt;
+      }
 
   pub end_after : (us : List ℕ) (above : Option Handle) (p : Views) → Here us above rec.E E p → Gone us above E E p p (Good rec.E)
   end_after us above p b = kept_after us above E p b (λ x i. absurd i) tt
@@ -269,9 +342,12 @@ module _ (g : Program) where
     made_after u q e a =
         record {
           lasting = a.lasting;
-          tells = made_adds g p.values q.values m (bare r) e b.once b.owned a.tells;
+          tells = made_adds g p.values q.values m (bare r) a.lasting.drawn e b.once b.owned a.tells;
+          room = room_round q (rec.A m) e a.room;
+          full = full_round p q (rec.A m) e a.full;
           gone = a.gone;
           made = a.made;
+          links_drew = a.links_drew;
           relinks = relinks_as r (A m r) a.gone a.made p q refl a.relinks;
           beside = good_then (rec.A m) e (beside_as us r (A m r) p q refl (free_by (bare (A m r)) (bare r) (touch_made m r))) a.beside;
           went = good_then (rec.A m) e (λ (c : Went us above r u a.gone a.made p q). record {
@@ -281,6 +357,7 @@ module _ (g : Program) where
             made_is = c.made_is;
             woken = c.woken;
           }) a.went;
+          replaced = good_then (rec.A m) e (made_replaces p q m r u a.lasting) a.replaced;
         }
 
   module _ (us : List ℕ) (above : Option Handle) (m : Handle) (x : Plain) (r : Kept) (p : Views) (b : Here us above (bare (W m x r)) (W m x r) p) where
@@ -307,9 +384,12 @@ module _ (g : Program) where
     wrote_after u q e a =
         record {
           lasting = a.lasting;
-          tells = wrote_adds g p.values q.values m (value_of x) (bare r) e b.owned a.lasting.stays a.tells;
+          tells = wrote_adds g p.values q.values m (value_of x) (bare r) a.lasting.drawn e b.owned a.lasting.stays a.tells;
+          room = room_round q (rec.W m (value_of x)) e a.room;
+          full = full_round p q (rec.W m (value_of x)) e a.full;
           gone = a.gone;
           made = a.made;
+          links_drew = a.links_drew;
           relinks = relinks_as r (W m x r) a.gone a.made p q refl a.relinks;
           beside = good_then (rec.W m (value_of x)) e (beside_as us r (W m x r) p q refl (free_by (bare (W m x r)) (bare r) (touch_wrote m x r))) a.beside;
           went = good_then (rec.W m (value_of x)) e (λ (c : Went us above r u a.gone a.made p q). record {
@@ -319,6 +399,7 @@ module _ (g : Program) where
             made_is = c.made_is;
             woken = c.woken;
           }) a.went;
+          replaced = good_then (rec.W m (value_of x)) e (wrote_replaces p q m x r u a.lasting) a.replaced;
         }
 
   -- a part and the rest behind it
@@ -354,8 +435,8 @@ module _ (g : Program) where
           record {
             halves = halves_turn p.marks us above n t r pl q.marks u a.replanted x.marks w b.replanted;
             rewired = (steps_wire p.readers p.marks us above n t r pl wi od).both q.readers x.readers u w gone left made new a.rewired b.rewired;
-            gone_is = both_all (taken t u) (taken r w) gone left a.gone_is b.gone_is;
-            made_is = both_all (given t u) (given r w) made new a.made_is b.made_is;
+            gone_is = both_all links_of (taken t u) (taken r w) gone left a.gone_is b.gone_is;
+            made_is = both_all links_of (given t u) (given r w) made new a.made_is b.made_is;
             woken = (steps_watch p.readers p.values p.marks us above n t r pl wi).both q.readers q.values x.values q.marks x.marks u gone made a.rewired stays b.replanted.passed a.woken b.woken;
           }
 
@@ -403,15 +484,31 @@ module _ (g : Program) where
       step_stop u new q (Fault why line) f a =
           record {
             lasting = a.lasting;
-            tells = tells_stop g.setting g.funcs Q closed go reading p.values q.values (bare t) (bare r) why line a.tells;
+            tells = tells_stop g.setting g.funcs Q closed go reading p.values q.values (bare t) (bare r) a.lasting.drawn why line a.tells;
+            room = a.room;
+            full = tt;
             gone = a.gone;
             made = a.made;
+            links_drew = a.links_drew;
             relinks = step_relinks a.gone a.made q a.relinks;
             beside = tt;
             went = tt;
+            replaced = tt;
           }
-      step_stop u new q Other f a =
-          record { lasting = a.lasting; tells = λ room body env heap base st end s. tt; gone = a.gone; made = a.made; relinks = step_relinks a.gone a.made q a.relinks; beside = tt; went = tt }
+      step_stop u new q (Other want) f a =
+          record {
+            lasting = a.lasting;
+            tells = tells_cut g.setting g.funcs Q closed go reading p.values q.values (bare t) (bare r) a.lasting.drawn want a.tells;
+            room = tt;
+            full = a.full;
+            gone = a.gone;
+            made = a.made;
+            links_drew = a.links_drew;
+            relinks = step_relinks a.gone a.made q a.relinks;
+            beside = tt;
+            went = tt;
+            replaced = tt;
+          }
 
       module _ (u : Kept) (q : Views) (a : PartGone wide (Some n) r t u p q (Good (bare u))) where
         -- where it is done the rest begins
@@ -426,11 +523,11 @@ module _ (g : Program) where
               tidy = a.lasting.stays.tidy;
               owned = (a.tells d.0 d.1 d.2 d.3 d.4 d.5 d.6 d.7).11;
               once = b.once.1;
-              needs = needs_rest g.setting g.funcs Q closed go reading p.values q.values (bare t) (bare r) (bare u) a.tells d;
+              needs = needs_rest g.setting g.funcs Q closed go reading p.values q.values (bare t) (bare r) (bare u) a.lasting.drawn a.tells d;
               planted = planted_rest p.marks us above n t r b.planted q.marks u a.went.replanted;
               unshared = unshared_on p.marks q.marks wide (slots t) a.beside.passed b.unshared;
               wired = (steps_wire p.readers p.marks us above n t r b.planted b.wired b.ordered).rest q.readers q.marks a.gone a.made a.relinks a.beside.passed
-                  (made_unread t u r a.made a.went.made_is (unread_behind g.setting g.funcs Q closed go reading g.same p.values q.values t r u b.once b.owned.1 a.lasting.stays d a.tells));
+                  (made_unread t u r a.made a.went.made_is (unread_behind g.setting g.funcs Q closed go reading g.same p.values q.values t r u a.lasting.drawn b.once b.owned.1 a.lasting.stays d a.tells));
               ordered = b.ordered.2;
               aged = λ s i. aged_on p.values q.values a.lasting.stays.fixed (a.lasting.claims cap.Mods).list s (b.aged s (used_by (bare r) (bare (S n t r)) (touch_second n t r) s i));
               watched = (steps_watch p.readers p.values p.marks us above n t r b.planted b.wired).rest q.values q.marks a.went.woken a.went.replanted.passed b.watched.1;
@@ -440,12 +537,16 @@ module _ (g : Program) where
         rest_after w x e c =
             record {
               lasting = lasting_then p q x a.lasting c.lasting;
-              tells = rest_adds g p.values q.values x.values (bare t) (bare r) (bare u) e a.tells c.lasting.stays c.tells;
+              tells = rest_adds g p.values q.values x.values (bare t) (bare r) (bare u) a.lasting.drawn c.lasting.drawn (λ d. a.lasting.drawn d + c.lasting.drawn d) e a.tells c.lasting.stays (λ d. refl) c.tells;
+              room = room_round x (rec.S (bare u)) e c.room;
+              full = full_round p x (rec.S (bare u)) e (full_then p q x a.lasting.drew a.lasting.claims e c.full);
               gone = a.gone ++ c.gone;
               made = a.made ++ c.made;
+              links_drew = long_both (a.lasting.drew cap.Links) (c.lasting.drew cap.Links) a.made c.made a.links_drew c.links_drew;
               relinks = (steps_wire p.readers p.marks us above n t r b.planted b.wired b.ordered).beside q.readers x.readers a.gone c.gone a.made c.made a.relinks c.relinks;
               beside = good_then (rec.S (bare u)) e (beside_both b.planted b.wired b.ordered q x a.beside) c.beside;
               went = good_then (rec.S (bare u)) e (below_both b.planted b.wired b.ordered u w a.gone a.made c.gone c.made q x a.lasting.stays a.went) c.went;
+              replaced = good_then (rec.S (bare u)) e (parts_replace n t r u w p q x a.lasting c.lasting a.replaced) c.replaced;
             }
 
       pub step_owns_it : (u w : Kept) (gone made : List Stands) (q : Views) → WentBelow us n (S n) t r u w gone made p q → Owns q.marks n
@@ -455,23 +556,56 @@ module _ (g : Program) where
       step_bare_it u w gone made q a = step_bare p.marks us above n t r b.planted q.marks u w a.halves
 
       -- both are done
-      pub step_done : (T : ValueView → ValueView → Ended → Type 0) (u w : Kept) (q : Views) (z : Rec Handle) → AfterBelow T us n (S n) t r u w p q (Good z) → After T us above (S n t r) (S n u w) p (record q { marks = cleared n.slot q.marks }) (Good z)
+      pub step_done : (T : ValueView → ValueView → (CapKind → ℕ) → Ended → Type 0) (u w : Kept) (q : Views) (z : Rec Handle)
+          → AfterBelow T us n (S n) t r u w p q (Good z)
+          → After T us above (S n t r) (S n u w) p (record q { marks = cleared n.slot q.marks }) (Good z)
       step_done T u w q z a =
           record {
             lasting = lasting_cleared n p q a.lasting;
             tells = a.tells;
+            room = a.room;
+            full = tt;
             gone = a.gone;
             made = a.made;
+            links_drew = a.links_drew;
             relinks = a.relinks;
             beside = beside_clear b.planted b.wired b.ordered u w a.gone a.made q a.went a.beside;
             went = below_clear b.planted b.wired b.ordered u w a.gone a.made q a.went;
+            replaced = a.replaced;
           }
 
   -- one of both parts isn't done
-  pub below_stop : (T : ValueView → ValueView → Ended → Type 0) (us : List ℕ) (above : Option Handle) (n : Handle) (f : Kept → Kept → Kept) (t r u w new : Kept) (p q : Views) (e : Ended) → is_good e ≡ false → AfterBelow T us n f t r u w p q e → After T us above (f t r) new p q e
+  pub below_stop : (T : ValueView → ValueView → (CapKind → ℕ) → Ended → Type 0) (us : List ℕ) (above : Option Handle) (n : Handle) (f : Kept → Kept → Kept) (t r u w new : Kept) (p q : Views) (e : Ended)
+      → is_good e ≡ false → AfterBelow T us n f t r u w p q e → After T us above (f t r) new p q e
   below_stop T us above n f t r u w new p q (Good z) h a = absurd cc
-  below_stop T us above n f t r u w new p q (Fault why line) h a = record { lasting = a.lasting; tells = a.tells; gone = a.gone; made = a.made; relinks = a.relinks; beside = tt; went = tt }
-  below_stop T us above n f t r u w new p q Other h a = record { lasting = a.lasting; tells = a.tells; gone = a.gone; made = a.made; relinks = a.relinks; beside = tt; went = tt }
+  below_stop T us above n f t r u w new p q (Fault why line) h a =
+      record {
+        lasting = a.lasting;
+        tells = a.tells;
+        room = a.room;
+        full = tt;
+        gone = a.gone;
+        made = a.made;
+        links_drew = a.links_drew;
+        relinks = a.relinks;
+        beside = tt;
+        went = tt;
+        replaced = tt;
+      }
+  below_stop T us above n f t r u w new p q (Other want) h a =
+      record {
+        lasting = a.lasting;
+        tells = a.tells;
+        room = tt;
+        full = a.full;
+        gone = a.gone;
+        made = a.made;
+        links_drew = a.links_drew;
+        relinks = a.relinks;
+        beside = tt;
+        went = tt;
+        replaced = tt;
+      }
 
   -- the body of an `if` or a `call`, as a part of the body that it stands in
 
@@ -505,7 +639,19 @@ module _ (g : Program) where
 
     pub body_after : (u : Kept) (q : Views) (e : Ended) → Gone us above t u p q e → PartGone us above r t u p q e
     body_after u q e a =
-        record { lasting = a.lasting; tells = inner_adds g p.values q.values (bare t) (bare r) e (body_is t is) b.once b.owned.1 a.lasting.stays a.tells; gone = a.gone; made = a.made; relinks = a.relinks; beside = a.beside; went = a.went }
+        record {
+          lasting = a.lasting;
+          tells = inner_adds g p.values q.values (bare t) (bare r) a.lasting.drawn e (body_is t is) b.once b.owned.1 a.lasting.stays a.tells;
+          room = a.room;
+          full = a.full;
+          gone = a.gone;
+          made = a.made;
+          links_drew = a.links_drew;
+          relinks = a.relinks;
+          beside = a.beside;
+          went = a.went;
+          replaced = a.replaced;
+        }
 
   -- both sides of a par, the left one first
 
@@ -538,17 +684,22 @@ module _ (g : Program) where
           watched = b.watched.0;
         }
 
-    -- where it isn't done, nothing is told of the par
-    pub left_out : (u new : Kept) (q : Views) (e : Ended) → is_good e ≡ false → Gone (wide us above n l k p) (Some n) l u p q e → PartGone us above rest (P n l k) new p q Other
+    -- where it isn't done, the right one isn't tried
+    pub left_out : (u new : Kept) (q : Views) (e : Ended) → is_good e ≡ false → Gone (wide us above n l k p) (Some n) l u p q e
+        → PartGone us above rest (P n l k) new p q (untried_ended e)
     left_out u new q e f a =
         record {
           lasting = a.lasting;
-          tells = λ room body env heap base st end s. tt;
+          tells = untried_adds g p.values q.values (bare l) (bare k) (bare rest) a.lasting.drawn e b.once b.owned.0.1 a.lasting.stays f a.tells;
+          room = room_untried q e f;
+          full = full_untried p q e a.full;
           gone = a.gone;
           made = a.made;
+          links_drew = a.links_drew;
           relinks = record { relinked = a.relinks.relinked; once = a.relinks.once; gone_is = λ x i. index_left x (links_of l) (links_of k) (a.relinks.gone_is x i); entered = a.relinks.entered };
-          beside = tt;
-          went = tt;
+          beside = none_untried (Beside us (P n l k) p q) e;
+          went = none_untried (Went us above (P n l k) new a.gone a.made p q) e;
+          replaced = none_untried (Replaced (P n l k) new a.lasting.mods (handles_in a.lasting.nodes) a.lasting.gone_nodes) e;
         }
 
     module _ (u : Kept) (q : Views) (a : Gone (wide us above n l k p) (Some n) l u p q (Good (bare u))) where
@@ -561,13 +712,13 @@ module _ (g : Program) where
             sets = a.beside.sets;
             rooted = a.beside.rooted;
             tidy = a.lasting.stays.tidy;
-            owned = owned_right g.setting g.funcs Q closed go reading (bare l) (bare k) (bare rest) b.once p.values q.values a.lasting.stays b.owned.0.1 (Good (bare u)) refl a.tells d;
+            owned = owned_right g.setting g.funcs Q closed go reading (bare l) (bare k) (bare rest) b.once p.values q.values a.lasting.stays b.owned.0.1 a.lasting.drawn (Good (bare u)) refl a.tells d;
             once = b.once.0.1;
-            needs = needs_second g.setting g.funcs Q closed go reading (bare l) (bare k) (bare rest) b.once p.values q.values a.lasting.stays b.owned.0.1 (Good (bare u)) refl a.tells d;
+            needs = needs_second g.setting g.funcs Q closed go reading (bare l) (bare k) (bare rest) b.once p.values q.values a.lasting.stays b.owned.0.1 a.lasting.drawn (Good (bare u)) refl a.tells d;
             planted = planted_rest p.marks us above n l k pl q.marks u a.went.replanted;
             unshared = unshared_on p.marks q.marks (wide us above n l k p) (slots l) a.beside.passed b.unshared;
             wired = (steps_wire p.readers p.marks us above n l k pl wi od).rest q.readers q.marks a.gone a.made a.relinks a.beside.passed
-                (made_unread l u k a.made a.went.made_is (unread_beside g.setting g.funcs Q closed go reading g.same p.values q.values l k u (bare rest) b.once b.tidy b.owned.0.0 b.owned.0.1 a.lasting.stays d a.tells));
+                (made_unread l u k a.made a.went.made_is (unread_beside g.setting g.funcs Q closed go reading g.same p.values q.values l k u (bare rest) a.lasting.drawn b.once b.tidy b.owned.0.0 b.owned.0.1 a.lasting.stays d a.tells));
             ordered = od.2;
             aged = λ s i. aged_on p.values q.values a.lasting.stays.fixed (a.lasting.claims cap.Mods).list s (b.aged s (used_by (bare k) (bare (S n l k)) (touch_second n l k) s i));
             watched = (steps_watch p.readers p.values p.marks us above n l k pl wi).rest q.values q.marks a.went.woken a.went.replanted.passed b.watched.1;
@@ -577,13 +728,17 @@ module _ (g : Program) where
       right_after w x e c =
           record {
             lasting = lasting_then p q x a.lasting c.lasting;
-            tells = subst (PartOf g (bare (P n l k)) (bare rest) p.values x.values) (both_then (bare u) e)
-                (turns_add g p.values q.values x.values (bare l) (bare k) (bare rest) (Good (bare u)) e b.once b.owned.0.1 b.owned.1 a.lasting.stays c.lasting.stays refl a.tells c.tells);
+            tells = subst (PartOf g (bare (P n l k)) (bare rest) p.values x.values (λ d. a.lasting.drawn d + c.lasting.drawn d)) (both_then (bare u) e)
+                (turns_add g p.values q.values x.values (bare l) (bare k) (bare rest) a.lasting.drawn c.lasting.drawn (λ d. a.lasting.drawn d + c.lasting.drawn d) (Good (bare u)) e b.once b.owned.0.1 b.owned.1 a.lasting.stays c.lasting.stays refl (λ d. refl) a.tells c.tells);
+            room = room_round x (rec.P (bare u)) e c.room;
+            full = full_round p x (rec.P (bare u)) e (full_then p q x a.lasting.drew a.lasting.claims e c.full);
             gone = a.gone ++ c.gone;
             made = a.made ++ c.made;
+            links_drew = long_both (a.lasting.drew cap.Links) (c.lasting.drew cap.Links) a.made c.made a.links_drew c.links_drew;
             relinks = (steps_wire p.readers p.marks us above n l k pl wi od).beside q.readers x.readers a.gone c.gone a.made c.made a.relinks c.relinks;
             beside = good_then (rec.P (bare u)) e (beside_both us above n l k p pl wi od q x a.beside) c.beside;
             went = good_then (rec.P (bare u)) e (below_both us above n l k p pl wi od u w a.gone a.made c.gone c.made q x a.lasting.stays a.went) c.went;
+            replaced = good_then (rec.P (bare u)) e (parts_replace n l k u w p q x a.lasting c.lasting a.replaced) c.replaced;
           }
 
       -- the right side isn't done
@@ -591,8 +746,34 @@ module _ (g : Program) where
       right_stop w new x (Good z) f c = absurd cc
       right_stop w new x (Fault why line) f c =
           let d = right_after w x (Fault why line) c in
-          record { lasting = d.lasting; tells = d.tells; gone = d.gone; made = d.made; relinks = relinks_as (S n l k) (P n l k) d.gone d.made p x refl d.relinks; beside = tt; went = tt }
-      right_stop w new x Other f c = let d = right_after w x Other c in record { lasting = d.lasting; tells = d.tells; gone = d.gone; made = d.made; relinks = relinks_as (S n l k) (P n l k) d.gone d.made p x refl d.relinks; beside = tt; went = tt }
+          record {
+            lasting = d.lasting;
+            tells = d.tells;
+            room = d.room;
+            full = tt;
+            gone = d.gone;
+            made = d.made;
+            links_drew = d.links_drew;
+            relinks = relinks_as (S n l k) (P n l k) d.gone d.made p x refl d.relinks;
+            beside = tt;
+            went = tt;
+            replaced = tt;
+          }
+      right_stop w new x (Other want) f c =
+          let d = right_after w x (Other want) c in
+          record {
+            lasting = d.lasting;
+            tells = d.tells;
+            room = tt;
+            full = d.full;
+            gone = d.gone;
+            made = d.made;
+            links_drew = d.links_drew;
+            relinks = relinks_as (S n l k) (P n l k) d.gone d.made p x refl d.relinks;
+            beside = tt;
+            went = tt;
+            replaced = tt;
+          }
 
       module _ (w : Kept) (x : Views) (c : Gone (outer us above n l k p) (Some n) k w q x (Good (bare w))) where
         pub pair_owns : Owns x.marks n
@@ -609,8 +790,11 @@ module _ (g : Program) where
             record {
               lasting = lasting_cleared n p x d.lasting;
               tells = d.tells;
+              room = d.room;
+              full = tt;
               gone = d.gone;
               made = d.made;
+              links_drew = d.links_drew;
               relinks = relinks_as (S n l k) (P n l k) d.gone d.made p x refl d.relinks;
               beside = beside_as us (S n l k) (P n l k) p y refl (λ s e. e) (beside_clear us above n l k p pl wi od u w d.gone d.made x d.went d.beside);
               went = record {
@@ -620,6 +804,7 @@ module _ (g : Program) where
                 made_is = h.made_is;
                 woken = h.woken;
               };
+              replaced = replaced_pair d.lasting.mods (handles_in d.lasting.nodes) d.lasting.gone_nodes n l k u w d.replaced;
             }
 
   -- a read block that read what is present
@@ -665,13 +850,40 @@ module _ (g : Program) where
       block_relinks : (gone made : List Stands) (q : Views) → Relinks p.readers q.readers t gone made → Relinks p.readers q.readers (R c t) gone made
       block_relinks gone made q a = (blocks_wire p.readers p.marks us above c t b.planted b.wired).beside q.readers gone made a
 
-      block_tells : (u : Kept) (q : Views) (e : Ended) → Gone below_it (Some c.node) t u p q e → PartOf g (bare (R c t)) (bare rest) p.values q.values (then_ended (block_round c) e)
-      block_tells u q e a = block_adds g p.values q.values (levels - c.level) c.block (env_of c.env) (reads_of c.reads) (bare t) (bare rest) e b.once present b.owned.1 a.lasting.stays a.tells
+      block_tells : (u : Kept) (q : Views) (e : Ended) (a : Gone below_it (Some c.node) t u p q e)
+          → PartOf g (bare (R c t)) (bare rest) p.values q.values a.lasting.drawn (then_ended (block_round c) e)
+      block_tells u q e a = block_adds g p.values q.values (levels - c.level) c.block (env_of c.env) (reads_of c.reads) (bare t) (bare rest) a.lasting.drawn e b.once present b.owned.1 a.lasting.stays a.tells
 
       pub block_stop : (u new : Kept) (q : Views) (e : Ended) → is_good e ≡ false → Gone below_it (Some c.node) t u p q e → PartGone us above rest (R c t) new p q (then_ended (block_round c) e)
       block_stop u new q (Good z) f a = absurd cc
-      block_stop u new q (Fault why line) f a = record { lasting = a.lasting; tells = block_tells u q (Fault why line) a; gone = a.gone; made = a.made; relinks = block_relinks a.gone a.made q a.relinks; beside = tt; went = tt }
-      block_stop u new q Other f a = record { lasting = a.lasting; tells = block_tells u q Other a; gone = a.gone; made = a.made; relinks = block_relinks a.gone a.made q a.relinks; beside = tt; went = tt }
+      block_stop u new q (Fault why line) f a =
+          record {
+            lasting = a.lasting;
+            tells = block_tells u q (Fault why line) a;
+            room = a.room;
+            full = tt;
+            gone = a.gone;
+            made = a.made;
+            links_drew = a.links_drew;
+            relinks = block_relinks a.gone a.made q a.relinks;
+            beside = tt;
+            went = tt;
+            replaced = tt;
+          }
+      block_stop u new q (Other want) f a =
+          record {
+            lasting = a.lasting;
+            tells = block_tells u q (Other want) a;
+            room = tt;
+            full = a.full;
+            gone = a.gone;
+            made = a.made;
+            links_drew = a.links_drew;
+            relinks = block_relinks a.gone a.made q a.relinks;
+            beside = tt;
+            went = tt;
+            replaced = tt;
+          }
 
       module _ (u : Kept) (q : Views) (a : Gone below_it (Some c.node) t u p q (Good (bare u))) where
         pub block_owns_it : Owns q.marks c.node
@@ -687,8 +899,11 @@ module _ (g : Program) where
             record {
               lasting = lasting_cleared c.node p q a.lasting;
               tells = block_tells u q (Good (bare u)) a;
+              room = a.room;
+              full = tt;
               gone = a.gone;
               made = a.made;
+              links_drew = a.links_drew;
               relinks = block_relinks a.gone a.made q a.relinks;
               beside = record { room = d.room; sets = d.sets; rooted = rooted_cleared c.node q.marks d.rooted; passed = z.passed; steady = d.steady };
               went = record {
@@ -698,4 +913,14 @@ module _ (g : Program) where
                 made_is = a.went.made_is ∙ sym (ap (all_of links_of) (like_is (reads_of c.reads) (added u []) (given t u)));
                 woken = woken_cleared c.node us p q (λ x i e. b.planted.apart x i (inl e)) (outside_woke p.readers p.values q.values q.marks q.marks below_it us (λ y i. inr i) (λ y i h. h) a.went.woken);
               };
+              replaced = replaced_block a.lasting.mods (handles_in a.lasting.nodes) a.lasting.gone_nodes c t u a.replaced;
             }
+
+pub record_wants : walk.RecordWants
+record_wants g us above k new p b =
+    undone_any g (TellsOf g (bare k)) us above (bare k) k new p b (tells_nothing g.setting g.funcs (Q g) (closed g) (go g) (reading g) p.values (bare k) None)
+
+pub part_wants : walk.PartWants
+part_wants g us above k rest new p b =
+    undone_any g (PartOf g (bare k) (bare rest)) us above (rec.S (bare k) (bare rest)) k new p b
+    (part_nothing g.setting g.funcs (Q g) (closed g) (go g) (reading g) p.values (bare k) (bare rest) None)

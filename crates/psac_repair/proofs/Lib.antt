@@ -2,6 +2,7 @@ pub mod Fills
 pub mod Along
 pub mod Walked
 pub mod Before
+pub mod Drawing
 pub mod Steps
 pub mod Tells
 pub mod Quiet
@@ -24,6 +25,8 @@ pub mod Unread
 pub mod Ordering
 pub mod Counting
 pub mod Exchanging
+pub mod Replacing
+pub mod Owning
 pub mod Wiring
 pub mod Watching
 pub mod Waking
@@ -33,6 +36,7 @@ pub mod Readying
 pub mod Rooting
 pub mod Fitted
 pub mod Changing
+pub mod Filling
 pub mod Visiting
 pub mod Layers
 pub mod Unsharing
@@ -46,3 +50,8 @@ pub mod Starting
 pub mod Gathering
 pub mod Retold
 pub mod Redone
+pub mod Whole
+pub mod Walking
+pub mod Pairing
+pub mod Indexed
+pub mod Blocking

@@ -1,5 +1,5 @@
 -- Below a node that isn't marked nothing is marked, and the record is kept.
-use Rattle.std.proofs.Common.{◌≡◌, ◌⊎◌, ℕ, Bool, true, false, if◌then◌else◌, List, [], Option, Some, Contains, AllPairs, arith, refl, ap, sym, subst, inl, inr}
+use Rattle.std.proofs.Common.{◌≡◌, Bool, true, false, if◌then◌else◌, List, [], Option, Some, arith, refl, ap, sym, subst, inl, inr}
 use Rattle.psac_ops.specs.declared.plain.Handle.{Handle}
 use Rattle.psac_ops.specs.Named.{same_handle}
 use Rattle.psac_syntax.specs.declared.program.Stmt.{Stmt}
@@ -8,32 +8,28 @@ use Rattle.psac_slots.specs.Claiming.{times}
 use Rattle.psac_values.specs.declared.view.ValueView.{ValueView}
 use Rattle.psac_marks.specs.declared.view.MarksView.{MarksView}
 use Rattle.psac_marks.specs.Steps.{IsClosed as IsMarkClosed}
-use Rattle.psac_model.specs.declared.ends.End.TheVariants.{Done}
-use Rattle.psac_model.specs.Names.{Env}
 use Rattle.psac_model.specs.Expression.{Setting}
 use Rattle.psac_model.specs.Tree.{Reads}
-use Rattle.psac_laws.specs.Standing.{Standing}
 use Rattle.psac_laws.proofs.Places.{zero_or}
 use Rattle.psac_traced.specs.Rec as rec
 use Rattle.psac_traced.specs.Rec.{Rec}
 use Rattle.psac_traced.specs.Holds.{EachOf, EachRead}
-use Rattle.psac_traced.specs.Places.{Makes, IsApart}
+use Rattle.psac_traced.specs.Places.{IsApart}
 use Rattle.psac_traced.specs.Parts.{IsClosed, IsBody}
 use Rattle.psac_traced.specs.Mending.{Mending, mended, unlike, anew, below}
-use Rattle.psac_traced.specs.Mended.{Mended}
 use Rattle.psac_traced.proofs.Kept.{kept_untouched}
-use Rattle.psac_trace.specs.Rights.{Heap, In, Tidy, Kept}
+use Rattle.psac_trace.specs.Rights.{Tidy, Kept}
 use Rattle.psac_repair.specs.Ended.{Good}
 use Rattle.psac_trace.proofs.Views.{kept_same}
 use Rattle.psac_record.specs.declared.parts.Reading.{Reading}
 use Rattle.psac_record.specs.Kept.{Kept as Tree, E, A, W, S, P, R, bare}
 use Rattle.psac_repair.specs.Scope.{GoesAlong, ReadsAlong}
 use Rattle.psac_repair.specs.Seen.{Now}
-use Rattle.psac_repair.specs.Stood.{Stood, Owned}
+use Rattle.psac_repair.specs.Stood.{Owned}
 use Rattle.psac_repair.specs.Marks.{Present, Sits, Nodes, Up, Unmarked}
-use Rattle.psac_repair.specs.Mends.{Told, Tells}
+use Rattle.psac_repair.specs.Mends.{Tells}
+use Rattle.psac_repair.proofs.Drawing.{no_draw, with_none}
 use Rattle.psac_repair.proofs.Before.{no_pair, no_block}
-use Rattle.psac_repair.proofs.Steps.{made_owned, had_not_lacked}
 use Rattle.psac_repair.proofs.Tells.{same_test, tells_end, tells_made, tells_wrote, tells_rest, tells_inner, tells_block, tells_turn}
 
 -- marks
@@ -105,46 +101,28 @@ module _ (w : Setting Handle) (is : w.same ≡ same_handle) (funcs : List Func) 
   now_present reads p = record { names = refl; seen = p }
 
   abbrev Quiet : Rec Handle → Type 0
-  Quiet r = IsApart r → Owned v r → EachRead (Present v) r → Tells w funcs Q r v v (Good r)
+  Quiet r = IsApart r → Owned v r → EachRead (Present v) r → Tells w funcs Q r v v no_draw (Good r)
 
   quiet_inner : (t r : Rec Handle) → IsBody t → Quiet t → Quiet r → Quiet (rec.S t r)
   quiet_inner t r b one more apart ow p =
-      tells_rest w funcs Q closed go reading v v v t r t (tells_inner w funcs Q closed go reading t r b apart v v ow.1 same_kept (Good t) (one apart.0 ow.0 p.0)) same_kept (Good r) (more apart.1 ow.1 p.1)
+      tells_rest w funcs Q closed go reading v v v t r t no_draw no_draw no_draw (tells_inner w funcs Q closed go reading t r b apart v v ow.1 same_kept no_draw (Good t) (one apart.0 ow.0 p.0)) same_kept (with_none no_draw) (Good r) (more apart.1 ow.1 p.1)
 
   -- a record that read what is present is kept
   pub quiet : (r : Rec Handle) → Quiet r
   quiet rec.E apart ow p = tells_end w funcs Q closed go reading v
-  quiet (rec.A m r) apart ow p = tells_made w funcs Q closed go reading v v m r apart ow (Good r) (quiet r apart.1 ow.1 p)
-  quiet (rec.W m y r) apart ow p = tells_wrote w funcs Q closed go reading v v m y r ow same_kept (Good r) (quiet r apart ow.2 p)
+  quiet (rec.A m r) apart ow p = tells_made w funcs Q closed go reading v v m r apart ow no_draw (Good r) (quiet r apart.1 ow.1 p)
+  quiet (rec.W m y r) apart ow p = tells_wrote w funcs Q closed go reading v v m y r ow same_kept no_draw (Good r) (quiet r apart ow.2 p)
   quiet (rec.S (rec.P l k) r) apart ow p =
-      tells_rest w funcs Q closed go reading v v v (rec.P l k) r (rec.P l k)
-      (tells_turn w funcs Q closed go reading l k r apart v v same_kept ow.0.1 v same_kept ow.1 (Good l) (Good k) refl (quiet l apart.0.0 ow.0.0 p.0.0) (quiet k apart.0.1 ow.0.1 p.0.1))
-      same_kept (Good r) (quiet r apart.1 ow.1 p.1)
+      tells_rest w funcs Q closed go reading v v v (rec.P l k) r (rec.P l k) no_draw no_draw no_draw
+      (tells_turn w funcs Q closed go reading l k r apart v v same_kept ow.0.1 no_draw v same_kept ow.1 no_draw no_draw (with_none no_draw) (Good l) (Good k) refl (quiet l apart.0.0 ow.0.0 p.0.0) (quiet k apart.0.1 ow.0.1 p.0.1))
+      same_kept (with_none no_draw) (Good r) (quiet r apart.1 ow.1 p.1)
   quiet (rec.S (rec.R level number saved reads t) r) apart ow p =
-      tells_rest w funcs Q closed go reading v v v (rec.R level number saved reads t) r (rec.R level number saved reads t)
-      (tells_block w funcs Q closed go reading level number saved reads t r apart v (now_present reads p.0.0) (subst (λ z. unlike z reads reads ≡ false) (sym is) (like_itself reads)) v ow.1 same_kept (Good t) (quiet t apart.0 ow.0 p.0.1))
-      same_kept (Good r) (quiet r apart.1 ow.1 p.1)
+      tells_rest w funcs Q closed go reading v v v (rec.R level number saved reads t) r (rec.R level number saved reads t) no_draw no_draw no_draw
+      (tells_block w funcs Q closed go reading level number saved reads t r apart v (now_present reads p.0.0) (subst (λ z. unlike z reads reads ≡ false) (sym is) (like_itself reads)) v ow.1 same_kept no_draw (Good t) (quiet t apart.0 ow.0 p.0.1))
+      same_kept (with_none no_draw) (Good r) (quiet r apart.1 ow.1 p.1)
   quiet (rec.S rec.E r) apart ow p = quiet_inner rec.E r tt (quiet rec.E) (quiet r) apart ow p
   quiet (rec.S (rec.A m t) r) apart ow p = quiet_inner (rec.A m t) r tt (quiet (rec.A m t)) (quiet r) apart ow p
   quiet (rec.S (rec.W m y t) r) apart ow p = quiet_inner (rec.W m y t) r tt (quiet (rec.W m y t)) (quiet r) apart ow p
   quiet (rec.S (rec.S a t) r) apart ow p = quiet_inner (rec.S a t) r tt (quiet (rec.S a t)) (quiet r) apart ow p
   quiet (rec.P l k) apart ow p = λ room body env heap base st end s. absurd (no_pair w funcs Q closed go reading room body env heap st end l k s.so s.meets s.before s.left_it)
   quiet (rec.R level number saved reads t) apart ow p = λ room body env heap base st end s. absurd (no_block w funcs Q closed go reading room body env heap st end level number saved reads t s.so s.meets s.before s.left_it)
-
--- at the root: what the law of a repair asks for
-module _ (w : Setting Handle) (funcs : List Func) (Q : List Stmt → Type 0) (v u : ValueView) (old new : Rec Handle) (room : ℕ) (body : List Stmt) (env : Env Handle) (heap base : Heap) (st end : Standing) (s : Stood w funcs Q v old room body env heap base st end) (owned : Owned v old) (told : Told w funcs Q st end.unwritten env old v u base (Good new)) where
-  pub law_mended : Mended w funcs Q base old new Done
-  law_mended = told.0.run base (λ m x e. e)
-
-  pub law_distinct : AllPairs (λ x y. x ≡ y → ⊥) (mended w.same old new).created
-  law_distinct = told.3.distinct
-
-  pub law_fresh : (m : Handle) → Contains (mended w.same old new).created m → In base m ⊎ Makes old m → ⊥
-  law_fresh m i (inr k) = had_not_lacked v m (made_owned v old owned m k) (told.3.lacked m i)
-  law_fresh m i (inl b) =
-      let l = told.3.lacked m i in
-      let sees = s.ready.sees m b.0 b.1 in
-      elim sees.2 [
-        | inl h ↦ l.mine h.0 h.1 (ap (λ (z : Handle). z.slot) h.2)
-        | inr h ↦ l.known h.0 h.1 (ap (λ (z : Handle). z.slot) h.2)
-      ]

@@ -1,5 +1,5 @@
 -- What a block that ran again begins with and what it leaves.
-use Rattle.std.proofs.Common.{◌≡◌, ℕ, ◌-◌, ◌<◌, true, length, None, IfOk, List, [], ◌++◌, map, if◌then◌else◌, append-nil, Option, Some, Result, Ok, Err, refl, ap, sym, ◌∙◌, subst, inr, arith}
+use Rattle.std.proofs.Common.{◌≡◌, ℕ, ◌+◌, ◌-◌, ◌<◌, true, length, None, IfOk, List, [], ◌++◌, map, if◌then◌else◌, append-nil, Option, Some, Result, Ok, Err, refl, ap, sym, ◌∙◌, subst, inr, arith}
 use Rattle.std.specs.Prelude.{slice_get, sum_by}
 use Rattle.std.proofs.lemmas.Option.{slice_get_within}
 use Rattle.psac_ops.specs.declared.plain.Handle.{Handle}
@@ -16,7 +16,7 @@ use Rattle.psac_readers.specs.Chained.{named}
 use Rattle.psac_marks.specs.declared.view.OwnView.{OwnView}
 use Rattle.psac_marks.specs.declared.view.MarksView.{MarksView}
 use Rattle.psac_marks.specs.Passes.{Keeps}
-use Rattle.psac_marks.specs.Steps.{Lacks}
+use Rattle.psac_marks.specs.Steps.{Lacks, dropping}
 use Rattle.psac_fork.specs.declared.tables.Pass.{Pass}
 use Rattle.psac_fork.specs.Whole.{IsOf, HasRoom}
 use Rattle.psac_model.specs.declared.ends.CapKind.{CapKind}
@@ -27,7 +27,7 @@ use Rattle.psac_model.specs.Names.{Env}
 use Rattle.psac_model.specs.Run.{with_reads}
 use Rattle.psac_cut.specs.CutShort.{cut_short}
 use Rattle.psac_traced.specs.Rec as rec
-use Rattle.psac_traced.specs.Rec.{Rec, writes}
+use Rattle.psac_traced.specs.Rec.{writes}
 use Rattle.psac_traced.specs.Mending.{anew, below as on_the_way, unlike, mended}
 use Rattle.psac_traced.specs.Traced.{traced}
 use Rattle.psac_ops.specs.Named.{same_handle}
@@ -42,13 +42,13 @@ use Rattle.psac_trace.specs.declared.halt.Halt.{Halt}
 use Rattle.psac_trace.specs.declared.halt.Halt.TheVariants as halt
 use Rattle.psac_trace.specs.Told as trace
 use Rattle.psac_trace.specs.Told.{bared}
-use Rattle.psac_trace.specs.Grown.{as_own, Cause, Made, made_below, count, claims_in, MoreClaims, MoreValues, MoreNodes, MoreMarks, MoreLinks}
+use Rattle.psac_trace.specs.Grown as trace_full
+use Rattle.psac_trace.specs.Grown.{as_own, Cause, Made, made_below, count, claims_in}
+use Rattle.psac_trace.specs.Grown.{MoreClaims, MoreValues, MoreNodes, MoreMarks, MoreLinks}
 use Rattle.psac_trace.specs.Raising.{puts, Rewrote, Only, Raises}
 use Rattle.psac_trace.specs.Running.{Begins, Leaves}
 use Rattle.psac_trace.proofs.Moving.{each_cap}
 use Rattle.psac_trace.proofs.Heaps.{held_front}
-use Rattle.psac_trace.proofs.Claims.{claims_none}
-use Rattle.psac_trace.proofs.Views.{kept_same}
 use Rattle.psac_trace.proofs.Raised.{knows_cases, puts_in}
 use Rattle.psac_repair.specs.declared.world.World.{World}
 use Rattle.psac_repair.specs.declared.world.Code.{Code}
@@ -56,14 +56,15 @@ use Rattle.psac_repair.specs.declared.outcome.Outcome.{Outcome}
 use Rattle.psac_repair.specs.Ended.{Good, Fault, Other, then_ended}
 use Rattle.psac_repair.specs.Outcomes.{halted, ended_by, end_of, Counts}
 use Rattle.psac_repair.specs.Tallied.{tally_of}
-use Rattle.psac_repair.specs.Taken.{indexes}
+use Rattle.psac_repair.specs.Taken.{indexes, nodes_up}
 use Rattle.psac_repair.specs.Planted.{slots, Once, Passed, Replanted}
 use Rattle.psac_repair.specs.Linked.{standing, LinksOnce, Linked, Relinked}
 use Rattle.psac_repair.specs.Rewired.{reads_in, Relinks, Rewired}
 use Rattle.psac_repair.specs.Watched.{Woken, Steady}
 use Rattle.psac_repair.specs.WatchLaws.{RunWarns}
 use Rattle.psac_repair.specs.Taking.{taken, given}
-use Rattle.psac_repair.specs.Going.{views, claims_of, Lasting, Beside, Went, After}
+use Rattle.psac_repair.specs.Wanted.{TellsAll}
+use Rattle.psac_repair.specs.Going.{views, claims_of, Lasting, IsFull, FullBy, Beside, Went, After}
 use Rattle.psac_repair.specs.Laws.{Program, IsBlock}
 use Rattle.psac_repair.specs.Rebuilt.{Begun, Olds, TakenOff, Replaces}
 use Rattle.psac_repair.specs.Changing.{Changed}
@@ -73,11 +74,15 @@ use Rattle.psac_repair.proofs.Begun.{begun_again, block_stmt}
 use Rattle.psac_repair.proofs.Grafting.{ready, block_kept, once_made, new_made, passed_again, replanted_again}
 use Rattle.psac_repair.proofs.Rerunning.{body_linked, rewired_block, rewired_redone, entered_all, entered_relinked, entered_new}
 use Rattle.psac_repair.proofs.Linking.{relinked_then}
-use Rattle.psac_repair.proofs.Rewiring.{wrote_slot, index_right, named_more, rewired_kept}
+use Rattle.psac_repair.proofs.Rewiring.{wrote_slot, index_right, named_more}
 use Rattle.psac_repair.proofs.Starting.{left_claims, fit_off, wrote_leads, warns_off, old_put, in_puts}
 use Rattle.psac_repair.proofs.Forked.{touch_slot}
 use Rattle.psac_repair.proofs.Wakes.{runs_wake, steady_run}
-use Rattle.psac_repair.proofs.Retold.{as_ended, tells_all}
+use Rattle.psac_repair.proofs.Exchanging.{swapped_again}
+use Rattle.psac_repair.proofs.Owning.{made_after}
+use Rattle.psac_repair.proofs.Replacing.{replaced_again}
+use Rattle.psac_repair.proofs.Retold.{as_ended, drawn_in, tells_all}
+use Rattle.psac_repair.proofs.Layers.{part_wants}
 
 added_links : (k : Kept) → links_of k ≡ all_of links_of (added k [])
 added_links E = refl
@@ -96,19 +101,6 @@ code_at g us above b t rest p bef indexed =
 
 relinks_of : (r q : ReadersView) (old new : Kept) (gone made : List Stands) → Rewired r q old new gone made → Relinks r q old gone made
 relinks_of r q old new gone made a = record { relinked = a.relinked; once = a.once; gone_is = a.gone_is; entered = a.entered }
-
--- nothing was done for want of memory
-pub nothing_done : (g : World) (us : List ℕ) (above : Option Handle) (stood : Rec Handle) (k new : Kept) (part rest : Rec Handle) (p : Pass) → BeforeIn g us above stood k (views p) → After (PartIn g part rest) us above k new (views p) (views p) Other
-nothing_done g us above stood k new part rest p bef =
-    record {
-      lasting = record { stays = kept_same p.values.knows bef.tidy; drew = λ c. 0; claims = λ c. claims_none (claims_of c (views p)) };
-      tells = λ room body env heap base st end s. tt;
-      gone = [];
-      made = [];
-      relinks = relinks_of p.readers.knows p.readers.knows k k [] [] (rewired_kept p.readers.knows k bef.wired.linked bef.wired.once);
-      beside = tt;
-      went = tt;
-    }
 
 module _ (g : World) (us : List ℕ) (above : Option Handle) (b : Reading) (t rest : Kept) (p : Pass) (bef : BeforeIn g us above (rec.S (bare (R b t)) (bare rest)) (R b t) (views p)) (again : List Seen) (ch : Changed p.values.knows b.reads again) (indexed : IsIndexed g) (code : Code) (found : slice_get g.blocks.now b.block ≡ Some code) where
   abbrev program : Program
@@ -169,22 +161,66 @@ module _ (g : World) (us : List ℕ) (above : Option Handle) (b : Reading) (t re
       more_claims : (c : CapKind) → MoreClaims (claims_in c p) (claims_in c n) (count c l.made)
       more_claims c = subst (λ z. MoreClaims z (claims_in c n) (count c l.made)) (sym (claims_is c)) (l.moves.claims c)
 
-      lasting : Lasting (views p) (views n)
+      claims_all : (c : CapKind) → MoreClaims (claims_of c (views p)) (claims_of c (views n)) (count c l.made)
+      claims_all = each_cap (λ c. MoreClaims (claims_of c (views p)) (claims_of c (views n)) (count c l.made)) (more_claims cap.Nodes) (more_claims cap.Mods) (more_claims cap.Links)
+
+      none_before : (c : CapKind) → (claims_in c p).over ≡ 0
+      none_before = each_cap (λ c. (claims_in c p).over ≡ 0) bef.room.2 bef.room.0 bef.room.1
+
+      indexes_in : (c : CapKind) → length (claims_in c n).drawn ≡ length (claims_in c p).drawn + drawn_in n l.made c
+      indexes_in c = let a = (more_claims c).drawn in let o = none_before c in omega (arith, a, o)
+
+      indexes_all : (c : CapKind) → length (claims_of c (views n)).drawn ≡ length (claims_of c (views p)).drawn + drawn_in n l.made c
+      indexes_all = each_cap (λ c. length (claims_of c (views n)).drawn ≡ length (claims_of c (views p)).drawn + drawn_in n l.made c) (indexes_in cap.Nodes) (indexes_in cap.Mods) (indexes_in cap.Links)
+
+      -- a table that is full for the run is so for the pass before it
+      full_of : (c : Cause) → trace_full.IsFull q n c → IsFull (views p) (views n) c
+      full_of c f =
+          let before : claims_of c.which (views p) ≡ claims_in c.which q = each_cap (λ k. claims_of k (views p) ≡ claims_in k p) refl refl refl c.which ∙ claims_is c.which in
+          let after : claims_of c.which (views n) ≡ claims_in c.which n = each_cap (λ k. claims_of k (views n) ≡ claims_in k n) refl refl refl c.which in
+          record {
+            list = f.list ∙ ap (λ (z : ClaimView). length z.list) (sym before);
+            past = f.past;
+            drew = subst (λ (z : ClaimView). times c.index z.drawn < times c.index (claims_of c.which (views n)).drawn) (sym before)
+                (subst (λ (z : ClaimView). times c.index (claims_in c.which q).drawn < times c.index z.drawn) (sym after) f.drew);
+          }
+
+      -- nodes were made once those of the old record were dropped
+      more_nodes : MoreNodes (dropping (nodes_up t) p.marks.knows) n.marks.knows l.made.nodes
+      more_nodes =
+          made_after p.marks.knows n.marks.knows t b.node.slot l.made.nodes
+          (subst (λ z. MoreNodes z n.marks.knows l.made.nodes) off.marks l.moves.nodes)
+
+      abbrev lasting : Lasting (views p) (views n)
       lasting =
           record {
             stays = stays;
             drew = λ c. count c l.made;
-            claims = each_cap (λ c. MoreClaims (claims_of c (views p)) (claims_of c (views n)) (count c l.made)) (more_claims cap.Nodes) (more_claims cap.Mods) (more_claims cap.Links);
+            claims = claims_all;
+            drawn = drawn_in n l.made;
+            indexes = indexes_all;
+            mods = l.made.mods;
+            values = subst (λ v. MoreValues v n.values.knows l.made.mods) values_is l.moves.values;
+            mods_drew = refl;
+            nodes = l.made.nodes;
+            gone_nodes = slots t;
+            swapped = swapped_again p.marks.knows (dropping (nodes_up t) p.marks.knows) n.marks.knows t l.made.nodes refl more_nodes;
+            own = more_nodes.own;
+            nodes_drew = refl;
+            shared = more_nodes.shared;
           }
 
-      tells : PartIn g (bare (R b t)) (bare rest) p.values.knows n.values.knows (then_ended (rec.R (levels - b.level) b.block saved (reads_of again)) (as_ended (bared e)))
+      -- what the run tells, under an environment and from a view
+      abbrev room_left : ℕ
+      room_left = levels - b.level
+
+      abbrev RunTells : Env Handle → ValueView → Type 0
+      RunTells scope v = TellsAll (setting_of g) (traced (setting_of g) g.funcs.now room_left) (cut_short (setting_of g) g.funcs.now room_left) code.body.now scope v n.values.knows (drawn_in n l.made) (as_ended (bared e))
+
+      tells : PartIn g (bare (R b t)) (bare rest) p.values.knows n.values.knows (drawn_in n l.made) (then_ended (rec.R (levels - b.level) b.block saved (reads_of again)) (as_ended (bared e)))
       tells =
-          (changed_adds program p.values.knows (levels - b.level) b.block saved (reads_of b.reads) (reads_of again) (bare t) (bare rest) code.items.now code.body.now bef.once ch.now ch.other numbered).adds n.values.knows (as_ended (bared e)) bef.owned.1 stays
-          (tells_all (setting_of g) (traced (setting_of g) g.funcs.now (levels - b.level)) (cut_short (setting_of g) g.funcs.now (levels - b.level)) (Some b.node) n code.body.now (with_reads saved code.items.now (reads_of again)) p.values.knows n.values.knows l.made
-          (subst (λ v. MoreValues v n.values.knows l.made.mods) values_is l.moves.values)
-          e l.all
-          (subst (λ z. trace.Tells (setting_of g) (traced (setting_of g) g.funcs.now (levels - b.level)) (cut_short (setting_of g) g.funcs.now (levels - b.level)) code.body.now z p.values.knows n.values.knows (bared e)) env_is
-          (subst (λ v. trace.Tells (setting_of g) (traced (setting_of g) g.funcs.now (levels - b.level)) (cut_short (setting_of g) g.funcs.now (levels - b.level)) code.body.now env v n.values.knows (bared e)) values_is l.tells)))
+          (changed_adds program p.values.knows (levels - b.level) b.block saved (reads_of b.reads) (reads_of again) (bare t) (bare rest) code.items.now code.body.now bef.once ch.now ch.other numbered).adds n.values.knows (drawn_in n l.made) (as_ended (bared e)) bef.owned.1 stays
+          (subst (λ z. RunTells z p.values.knows) env_is (subst (RunTells env) values_is (tells_all (setting_of g) g.funcs.now room_left olds g.tables.now code.body.now env (Some b.node) q n e l)))
 
       off_once : LinksOnce q.readers.knows
       off_once c =
@@ -323,11 +359,15 @@ module _ (g : World) (us : List ℕ) (above : Option Handle) (b : Reading) (t re
           record {
             lasting = lasting n (trace.Good u) l;
             tells = tells n (trace.Good u) l;
+            room = l.room;
+            full = tt;
             gone = links_of t;
             made = links_of u;
+            links_drew = ap (λ z. length z.links) l.all;
             relinks = relinks n (trace.Good u) l u l.all (words_on (trace.Good u) l) l.raises.only l.room;
             beside = beside n (trace.Good u) l u l.all (words_on (trace.Good u) l) l.raises.only l.room spares;
             went = went n (trace.Good u) l u l.all (words_on (trace.Good u) l) l.raises.only l.room spares l.raises told.1.sees;
+            replaced = replaced_again b now_block t u (Some b.node) l.made refl (ch.links b.node) ch.other l.all;
           }
 
       pub after_fault : (u k : Kept) (why : FaultKind) (line : ℕ) → Runs (trace.Fault u why line) → After (PartIn g (bare (R b t)) (bare rest)) us above (R b t) k (views p) (views n) (Fault why line)
@@ -335,23 +375,36 @@ module _ (g : World) (us : List ℕ) (above : Option Handle) (b : Reading) (t re
           record {
             lasting = lasting n (trace.Fault u why line) l;
             tells = tells n (trace.Fault u why line) l;
+            room = l.room;
+            full = tt;
             gone = links_of t;
             made = l.made.links;
+            links_drew = refl;
             relinks = relinks_any n (trace.Fault u why line) l;
             beside = tt;
             went = tt;
+            replaced = tt;
           }
 
-      pub after_want : (u k : Kept) (why : Option Cause) → Runs (trace.Other u why) → After (PartIn g (bare (R b t)) (bare rest)) us above (R b t) k (views p) (views n) Other
+      full_want : (u : Kept) (why : Option Cause) → Runs (trace.Other u why) → FullBy (views p) (views n) (Other why)
+      full_want u None l = tt
+      full_want u (Some c) l = full_of n (trace.Other u (Some c)) l c l.full
+
+      pub after_want : (u k : Kept) (why : Option Cause) → Runs (trace.Other u why)
+          → After (PartIn g (bare (R b t)) (bare rest)) us above (R b t) k (views p) (views n) (Other why)
       after_want u k why l =
           record {
             lasting = lasting n (trace.Other u why) l;
             tells = tells n (trace.Other u why) l;
+            room = tt;
+            full = full_want u why l;
             gone = links_of t;
             made = l.made.links;
+            links_drew = refl;
             relinks = relinks_any n (trace.Other u why) l;
             beside = tt;
             went = tt;
+            replaced = tt;
           }
 
 -- what is needed at a block that is taken off
@@ -377,10 +430,11 @@ redo_counts b t again (Err h) o other r =
     subst (λ z. IfOk z (λ y. (y ≡ tally_of (mended same_handle (bare (R b t)) (rec_of o.tree))) × (dropped_of o.dropped ≡ taken (R b t) (kept_of o.tree)))) (sym (r.bad h refl)) tt
 
 -- memory ran out before anything was done
-pub redo_undone : (g : World) (k rest : Kept) (p : Pass) (o : Outcome) → end_of o ≡ Other → LeftPart g k rest p p o
+pub redo_undone : (g : World) (k rest : Kept) (p : Pass) (o : Outcome) → end_of o ≡ Other None → LeftPart g k rest p p o
 redo_undone g k rest p o e us above bef =
     let T = PartIn g (bare k) (bare rest) in
-    subst (λ z. After T us above k (kept_of o.tree) (views p) (views p) z) (sym e) (nothing_done g us above (rec.S (bare k) (bare rest)) k (kept_of o.tree) (bare k) (bare rest) p bef)
+    let code : Program = record { setting = setting_of g; funcs = g.funcs.now; main = g.main.now; checked = bef.checked; same = refl } in
+    subst (λ z. After T us above k (kept_of o.tree) (views p) (views p) z) (sym e) (part_wants code us above k rest (kept_of o.tree) (views p) bef)
 
 -- the outcome of a run
 module _ (g : World) (b : Reading) (t rest : Kept) (p : Pass) (again : List Seen) (ch : Changed p.values.knows b.reads again) (indexed : IsIndexed g) (code : Code) (found : slice_get g.blocks.now b.block ≡ Some code) (env : Env Handle) (env_is : env ≡ with_reads (env_of b.env) code.items.now (reads_of again)) (olds : List Handle) (are : Olds olds env t) (q : Pass) (of : IsOf q g.tables.now) (off : TakenOff p q b t) (n : Pass) where

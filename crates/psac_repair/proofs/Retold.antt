@@ -1,53 +1,79 @@
 -- What a tracing run tells, as it is told of a block that ran again.
-use Rattle.std.proofs.Common.{◌≡◌, ◌≢◌, ℕ, zero, suc, ◌<◌, List, [], ◌∷◌, length, Option, refl, ap, sym, subst, inl, inr, arith}
-use Rattle.std.specs.Prelude.{AllPairs, Contains, slice_index_or}
+use Rattle.std.proofs.Common.{◌≡◌, ℕ, ◌+◌, List, length, Option, ap, ◌∙◌, arith}
+use Rattle.std.proofs.lemmas.List.{length-map}
 use Rattle.psac_ops.specs.declared.plain.Handle.{Handle}
 use Rattle.psac_syntax.specs.declared.program.Stmt.{Stmt}
-use Rattle.psac_slots.specs.Handles.{Member}
-use Rattle.psac_values.specs.declared.view.ValueView.{ValueView}
+use Rattle.psac_syntax.specs.declared.program.Func.{Func}
 use Rattle.psac_fork.specs.declared.tables.Pass.{Pass}
+use Rattle.psac_fork.specs.declared.tables.Tables.{Tables}
+use Rattle.psac_fork.specs.Whole.{HasRoom}
+use Rattle.psac_model.specs.declared.ends.CapKind.{CapKind}
+use Rattle.psac_model.specs.declared.ends.CapKind.TheVariants as cap
 use Rattle.psac_model.specs.Names.{Env}
 use Rattle.psac_model.specs.Expression.{Setting}
-use Rattle.psac_cut.specs.CutShort.{Cuts}
-use Rattle.psac_traced.specs.Rec.{Rec}
-use Rattle.psac_traced.specs.Traced.{Traces as Tracing}
-use Rattle.psac_record.specs.Kept.{Kept, bare, made_of}
+use Rattle.psac_model.specs.Tree.{size_of}
+use Rattle.psac_cut.specs.CutShort.{cut_short}
+use Rattle.psac_cut.specs.Within.{count_of, some_mods}
+use Rattle.psac_traced.specs.Rec.{Rec, tree_of}
+use Rattle.psac_traced.specs.Traced.{traced}
+use Rattle.psac_record.specs.Kept.{Kept, bare, nodes_below}
+use Rattle.psac_record.proofs.Listed.{nodes_listed, links_listed, made_listed}
 use Rattle.psac_trace.specs.Told as trace
 use Rattle.psac_trace.specs.Told.{bared}
-use Rattle.psac_trace.specs.Grown.{Differ, Made, made_below, MoreValues}
-use Rattle.psac_trace.specs.Running.{AllMade}
+use Rattle.psac_trace.specs.Grown.{Made, made_below, count, claims_in, as_own}
+use Rattle.psac_trace.specs.Running.{AtMost, Leaves}
+use Rattle.psac_trace.proofs.Following.{runs_tell}
 use Rattle.psac_repair.specs.Ended.{Ended, Good, Fault, Other}
-use Rattle.psac_repair.specs.Wanted.{NewMade, TellsAll}
+use Rattle.psac_repair.specs.Wanted.{TellsAll}
+use Rattle.psac_repair.proofs.Drawing.{Draw, DrawMost, count_add}
 
 abbrev pub as_ended : trace.Ended (Rec Handle) → Ended
 as_ended (trace.Good r) = Good r
 as_ended (trace.Fault r k n) = Fault k n
-as_ended (trace.Other r why) = Other
+as_ended (trace.Other r why) = Other why
 
--- lists by their places
-at_member : {X : Type 0} (xs : List X) (k : ℕ) (d : X) → k < length xs → Member (slice_index_or xs k d) xs
-at_member [] k d lt = absurd (omega (arith, lt))
-at_member (x ∷ xs) zero d lt = inl refl
-at_member (x ∷ xs) (suc k) d lt = inr (at_member xs k d (omega (arith, lt)))
+-- a record has as many nodes, modifiables and links as its size says
+listed : (par : Option Handle) (k : Kept) (c : CapKind) → count c (made_below par k) ≡ count_of c (size_of (tree_of (bare k)))
+listed par k cap.Nodes = length-map (nodes_below par k) as_own ∙ nodes_listed par k
+listed par k cap.Mods = made_listed k
+listed par k cap.Links = links_listed k
 
-contained : (xs : List Handle) (m : Handle) → Contains xs m → Member m xs
-contained xs m c = subst (λ z. Member z xs) c.2 (at_member xs c.0 m c.1)
+-- so many indexes were drawn: for slots, and past the list
+abbrev pub drawn_in : Pass → Made → CapKind → ℕ
+drawn_in q made c = count c made + (claims_in c q).over
 
-all_differ : (ms : List Handle) → Differ ms → AllPairs (λ x y. x ≢ y) ms
-all_differ [] d i j z lt lj = absurd (omega (arith, lj))
-all_differ (m ∷ ms) d i zero z lt lj = absurd (omega (arith, lt))
-all_differ (m ∷ ms) d zero (suc j) z lt lj = λ e. d.0 (slice_index_or ms j z) (at_member ms j z (omega (arith, lj))) (ap (λ (h : Handle). h.slot) (sym e))
-all_differ (m ∷ ms) d (suc i) (suc j) z lt lj = all_differ ms d.1 i j z (omega (arith, lt)) (omega (arith, lj))
+none_over : (q : Pass) → HasRoom q → (c : CapKind) → (claims_in c q).over ≡ 0
+none_over q room cap.Nodes = room.2
+none_over q room cap.Mods = room.0
+none_over q room cap.Links = room.1
 
-new_values : (v u : ValueView) (ms : List Handle) → MoreValues v u ms → NewMade v u ms
-new_values v u ms m = record { distinct = all_differ ms m.differ; lacked = λ h c. m.lacked h (contained ms h c); has = λ h c. m.has h (contained ms h c) }
+draws_whole : (par : Option Handle) (q : Pass) (k : Kept) (made : Made) → made ≡ made_below par k → HasRoom q
+    → Draw (drawn_in q made) (size_of (tree_of (bare k)))
+draws_whole par q k made is room c = let a = none_over q room c in let b = ap (count c) is ∙ listed par k c in omega (arith, a, b)
 
-made_of_all : (par : Option Handle) (q : Pass) (v u : ValueView) (made : Made) → MoreValues v u made.mods → (k : Kept) → made ≡ made_below par k → NewMade v u (made_of k)
-made_of_all par q v u made m k e = new_values v u (made_of k) (subst (MoreValues v u) (ap (λ (z : Made). z.mods) e) m)
+draws_cut : (par : Option Handle) (q : Pass) (k : Kept) (made : Made) → made.mods ≡ (made_below par k).mods
+    → AtMost q made (made_below par k) → DrawMost (drawn_in q made) (size_of (tree_of (bare k))) q.values.knows.claims.over
+draws_cut par q k made mods most cap.Nodes =
+    let a = most.0 in
+    let b = listed par k cap.Nodes in
+    let d = count_add cap.Nodes (size_of (tree_of (bare k))) (some_mods q.values.knows.claims.over) in
+    omega (arith, a, b, d)
+draws_cut par q k made mods most cap.Mods = let a = ap (λ (ms : List Handle). length ms) mods in let b = listed par k cap.Mods in omega (arith, a, b)
+draws_cut par q k made mods most cap.Links = let a = most.1 in let b = listed par k cap.Links in omega (arith, a, b)
 
-pub tells_all : (w : Setting Handle) (deep : Tracing Handle) (first : Cuts Handle) (par : Option Handle) (q : Pass) (body : List Stmt) (env : Env Handle) (v u : ValueView) (made : Made) → MoreValues v u made.mods → (e : trace.Ended Kept) → AllMade (made_below par) q made e → trace.Tells w deep first body env v u (bared e) → TellsAll w deep body env v u (as_ended (bared e))
-tells_all w deep first par q body env v u made m (trace.Good k) all tells base st end meets ready =
-    let a = tells base st end meets ready in (a.0, a.1, a.2, made_of_all par q v u made m k all)
-tells_all w deep first par q body env v u made m (trace.Fault k i n) all tells base st end meets ready =
-    let a = tells base st end meets ready in (bare k, a.0, a.1, a.2, made_of_all par q v u made m k all)
-tells_all w deep first par q body env v u made m (trace.Other k why) all tells base st end meets ready = tt
+module _ (w : Setting Handle) (funcs : List Func) (room : ℕ) (olds : List Handle) (t : Tables) (body : List Stmt) (env : Env Handle) (par : Option Handle) (p q : Pass) where
+  abbrev Ran : trace.Ended Kept → Type 0
+  Ran = Leaves w (traced w funcs room) (cut_short w funcs room) olds t body env par p q
+
+  pub tells_all : (e : trace.Ended Kept) (l : Ran e)
+      → TellsAll w (traced w funcs room) (cut_short w funcs room) body env p.values.knows q.values.knows (drawn_in q l.made) (as_ended (bared e))
+  tells_all (trace.Good k) l base st end meets ready =
+      let a = runs_tell w funcs room olds t body env par p q (trace.Good k) l base st end meets ready in
+      (a.0, a.1, a.2, a.3, draws_whole par q k l.made l.all l.room)
+  tells_all (trace.Fault k i n) l base st end meets ready =
+      let a = runs_tell w funcs room olds t body env par p q (trace.Fault k i n) l base st end meets ready in
+      (bare k, a.0, a.1, a.2, a.3, draws_whole par q k l.made l.all l.room)
+  tells_all (trace.Other k why) l base st end meets ready =
+      let a = runs_tell w funcs room olds t body env par p q (trace.Other k why) l base st end meets ready in
+      let told = l.tells base st end meets ready in
+      (bare k, q.values.knows.claims.over, told.0, a.1, draws_cut par q k l.made l.all.0 l.all.1, told.1)

@@ -1,5 +1,5 @@
 -- Both sides of a par at once: each begins on its part of the pass, and what both tell is told of the par.
-use Rattle.std.proofs.Common.{◌≡◌, ℕ, not, ◌&&◌, Bool, true, false, List, ◌++◌, Some, None, refl, ap, sym, ◌∙◌, subst, inl, inr, ⊎_elim, append_assoc}
+use Rattle.std.proofs.Common.{◌≡◌, ℕ, ◌+◌, not, ◌&&◌, Bool, true, false, List, ◌++◌, Some, None, refl, ap, sym, ◌∙◌, subst, inl, inr, ⊎_elim, append_assoc}
 use Rattle.std.proofs.lemmas.List.Elements.{Contains-append_cases}
 use Rattle.psac_ops.specs.declared.plain.Handle.{Handle}
 use Rattle.psac_syntax.specs.declared.program.Stmt.{Stmt}
@@ -10,6 +10,7 @@ use Rattle.psac_values.specs.declared.view.OwnedView.{OwnedView}
 use Rattle.psac_values.specs.declared.view.KnownView.{KnownView}
 use Rattle.psac_values.specs.Steps.{left_of, right_of, joined}
 use Rattle.psac_values.specs.Knowing.{Has, United, all_words}
+use Rattle.psac_model.specs.declared.ends.CapKind.{CapKind}
 use Rattle.psac_model.specs.declared.ends.End.TheVariants.{Done, Stop}
 use Rattle.psac_model.specs.Names.{Env}
 use Rattle.psac_model.specs.Expression.{Setting}
@@ -19,15 +20,21 @@ use Rattle.psac_traced.specs.Rec.{Rec, S, P, writes}
 use Rattle.psac_traced.specs.Places.{Makes, IsApart}
 use Rattle.psac_traced.specs.Parts.{IsClosed}
 use Rattle.psac_traced.specs.Mending.{mended}
-use Rattle.psac_trace.specs.Rights.{Heap, held, Named, Within, Sees, Tidy, Target, Kept}
+use Rattle.psac_trace.specs.Rights.{Heap, held, Named, Within, Wider, Sees, Tidy, Target, Kept}
+use Rattle.psac_model.specs.declared.ends.End.{End}
+use Rattle.psac_ops.specs.Named.{same_handle}
+use Rattle.psac_traced.specs.Mended.{Mended}
+use Rattle.psac_cut_repair.specs.Based.{CutMends}
+use Rattle.psac_cut_repair.proofs.Cutting.{mended_cut}
 use Rattle.psac_repair.specs.Ended.{Ended, Good, Fault, Other, both_ended}
-use Rattle.psac_repair.specs.Wanted.{NewMade}
+use Rattle.psac_trace.specs.Laws.{NewMade}
 use Rattle.psac_trace.proofs.Heaps.{held_front, held_either, in_front, in_back, in_either, named_more, names_back, wider_in, within_fresh, fresh_sides}
 use Rattle.psac_trace.proofs.Forks.{left_has, right_has, left_from, left_sees, right_sees, joined_kept, joined_sees_left, joined_sees_right, lent_left, left_right, right_shares, shares_left}
 use Rattle.psac_repair.specs.Scope.{Scope, GoesAlong, ReadsAlong, Fills}
 use Rattle.psac_repair.specs.Stood.{Stood, Owned}
 use Rattle.psac_repair.specs.Divided.{writes_slot, neither}
-use Rattle.psac_repair.specs.Mends.{Still, Renewed, Told, Needs, Tells, TellsPart}
+use Rattle.psac_repair.specs.Mends.{Still, Renewed, ToldCut, Told, Needs, Tells, TellsPart}
+use Rattle.psac_repair.proofs.Drawing.{Sum, draw_all, draw_both, most_both}
 use Rattle.psac_repair.proofs.Fills.{scope_right, fills_second, target_either, targets_apart}
 use Rattle.psac_repair.proofs.Before.{Always, AtPair, filled}
 use Rattle.psac_repair.proofs.Steps.{scope_of, none_of, ready_from, within_base, distinct_append, part_end}
@@ -241,37 +248,69 @@ module _ (w : Setting Handle) (funcs : List Func) (Q : List Stmt → Type 0) (cl
       on_left : Within base (Sees a) → Within base (Sees j)
       on_left f m x e = joined_sees_left Sh Ri v tidy a b j ka kb is un m x (f m x e)
 
-      pub told_forked : (one two : Ended) → Told w funcs Q o.now One o.here l L a base one → Told w funcs Q o.now Two o.here k K b base two → Told w funcs Q o.now (in_both One Two) o.here (P l k) v j base (both_ended one two)
-      told_forked (Good c) (Good d) ta tb = (
+      -- a side that ended is one that was cut short at its end
+      cut_of : (old new : Rec Handle) (end : End) → ((other : Heap) → Wider base other → Mended w funcs Q other old new end)
+          → CutMends same_handle w funcs Q base old new 0
+      cut_of old new end run = record { run = λ other wi. mended_cut w funcs Q other old new end (run other wi) }
+
+      cut_forked : (drawn more all : CapKind → ℕ) → Sum drawn more all → ToldCut w funcs Q l L a base drawn
+          → ToldCut w funcs Q k K b base more → ToldCut w funcs Q (P l k) v j base all
+      cut_forked drawn more all sum ta tb = (
+        P ta.0 tb.0,
+        ta.1 + tb.1,
+        record { run = λ other wi. inl (ta.1, tb.1, ta.2.run other wi, tb.2.run other wi, refl) },
+        both_made (mended w.same l ta.0).created (mended w.same k tb.0).created ta.3 tb.3,
+        most_both drawn more all (mended w.same l ta.0).added (mended w.same k tb.0).added ta.1 tb.1 (ta.1 + tb.1) refl sum ta.4 tb.4,
+        on_left ta.5,
+      )
+
+      pub told_forked : (drawn more all : CapKind → ℕ) → Sum drawn more all → (one two : Ended)
+          → Told w funcs Q o.now One o.here l L a base drawn one → Told w funcs Q o.now Two o.here k K b base more two
+          → Told w funcs Q o.now (in_both One Two) o.here (P l k) v j base all (both_ended one two)
+      told_forked drawn more all sum (Good c) (Good d) ta tb = (
         record { run = λ other wi. (Done, Done, ta.0.run other wi, tb.0.run (writes c ++ other) (within_fresh (writes c) base other ta.0.fresh wi), refl); fresh = fresh_sides base (writes c) (writes d) ta.0.fresh tb.0.fresh },
         both_renewed (writes c) (writes d) ta.1 tb.1,
         both_still ta.2 tb.2,
         both_made (mended w.same l c).created (mended w.same k d).created ta.3 tb.3,
+        draw_both drawn more all (mended w.same l c).added (mended w.same k d).added sum ta.4 tb.4,
       )
-      told_forked (Good c) (Fault why n) ta tb = (
+      told_forked drawn more all sum (Good c) (Fault why n) ta tb = (
         P c tb.0,
         record { run = λ other wi. (Done, Stop why n, ta.0.run other wi, tb.1.run (writes c ++ other) (within_fresh (writes c) base other ta.0.fresh wi), refl); fresh = fresh_sides base (writes c) (writes tb.0) ta.0.fresh tb.1.fresh },
         on_left (within_base (writes c) base a ta.0.fresh ta.1.sees),
         both_still ta.2 tb.3,
         both_made (mended w.same l c).created (mended w.same k tb.0).created ta.3 tb.4,
+        draw_both drawn more all (mended w.same l c).added (mended w.same k tb.0).added sum ta.4 tb.5,
       )
-      told_forked (Fault why n) (Good d) ta tb = (
+      told_forked drawn more all sum (Fault why n) (Good d) ta tb = (
         P ta.0 d,
         record { run = λ other wi. (Stop why n, Done, ta.1.run other wi, tb.0.run (writes ta.0 ++ other) (within_fresh (writes ta.0) base other ta.1.fresh wi), refl); fresh = fresh_sides base (writes ta.0) (writes d) ta.1.fresh tb.0.fresh },
         on_left ta.2,
         both_still ta.3 tb.2,
         both_made (mended w.same l ta.0).created (mended w.same k d).created ta.4 tb.3,
+        draw_both drawn more all (mended w.same l ta.0).added (mended w.same k d).added sum ta.5 tb.4,
       )
-      told_forked (Fault why n) (Fault or_why i) ta tb = (
+      told_forked drawn more all sum (Fault why n) (Fault or_why i) ta tb = (
         P ta.0 tb.0,
         record { run = λ other wi. (Stop why n, Stop or_why i, ta.1.run other wi, tb.1.run (writes ta.0 ++ other) (within_fresh (writes ta.0) base other ta.1.fresh wi), refl); fresh = fresh_sides base (writes ta.0) (writes tb.0) ta.1.fresh tb.1.fresh },
         on_left ta.2,
         both_still ta.3 tb.3,
         both_made (mended w.same l ta.0).created (mended w.same k tb.0).created ta.4 tb.4,
+        draw_both drawn more all (mended w.same l ta.0).added (mended w.same k tb.0).added sum ta.5 tb.5,
       )
-      told_forked (Good c) Other ta tb = tt
-      told_forked (Fault why n) Other ta tb = tt
-      told_forked Other two ta tb = tt
+      told_forked drawn more all sum (Good c) (Other want) ta tb =
+          let seen = within_base (writes c) base a ta.0.fresh ta.1.sees in
+          cut_forked drawn more all sum (c, 0, cut_of l c Done ta.0.run, ta.3, draw_all drawn (mended w.same l c).added ta.4, seen) tb
+      told_forked drawn more all sum (Fault why n) (Other want) ta tb =
+          let draws = draw_all drawn (mended w.same l ta.0).added ta.5 in
+          cut_forked drawn more all sum (ta.0, 0, cut_of l ta.0 (Stop why n) ta.1.run, ta.4, draws, ta.2) tb
+      told_forked drawn more all sum (Other want) (Good d) ta tb =
+          let seen = within_base (writes d) base b tb.0.fresh tb.1.sees in
+          cut_forked drawn more all sum ta (d, 0, cut_of k d Done tb.0.run, tb.3, draw_all more (mended w.same k d).added tb.4, seen)
+      told_forked drawn more all sum (Other want) (Fault why n) ta tb =
+          let draws = draw_all more (mended w.same k tb.0).added tb.5 in
+          cut_forked drawn more all sum ta (tb.0, 0, cut_of k tb.0 (Stop why n) tb.1.run, tb.4, draws, tb.2)
+      told_forked drawn more all sum (Other want) (Other or_want) ta tb = cut_forked drawn more all sum ta tb
 
   -- the sides of a fork begin
   module _ (v : ValueView) (tidy : Tidy v) (ol : Owned v l) (ok : Owned v k) where
@@ -302,14 +341,16 @@ module _ (w : Setting Handle) (funcs : List Func) (Q : List Stmt → Type 0) (cl
         own_right v tidy ol ok n.0 n.1 n.2 n.3 n.4 n.5 n.6 n.7 o
 
     -- and what both tell is told of the par
-    pub tells_forked : (a b j : ValueView) → Kept LeftView a → Kept RightView b → j ≡ joined a b → United a b j → Owned v r → (one two : Ended) → Tells w funcs Q l LeftView a one → Tells w funcs Q k RightView b two → TellsPart w funcs Q (P l k) r v j (both_ended one two)
-    tells_forked a b j ka kb is un or one two ta tb room body env heap base st end s =
+    pub tells_forked : (a b j : ValueView) → Kept LeftView a → Kept RightView b → j ≡ joined a b → United a b j → Owned v r
+        → (drawn more all : CapKind → ℕ) → Sum drawn more all → (one two : Ended) → Tells w funcs Q l LeftView a drawn one
+        → Tells w funcs Q k RightView b more two → TellsPart w funcs Q (P l k) r v j all (both_ended one two)
+    tells_forked a b j ka kb is un or drawn more all sum one two ta tb room body env heap base st end s =
         let o = pair_at w funcs Q closed go reading l k r apart v room body env heap base st end s in
         let lf = left_fills v tidy ol ok room body env heap base st end s o in
         let rf = right_fills v tidy ol ok room body env heap base st end s o in
         let scope = o.seq.along heap s.before in
         let whole = fills_second w o.now o.mid end.unwritten o.here heap o.ls o.rs o.parts scope o.seq.narrows Always (Makes l) (writes l) lf (λ z g. tt) (λ z i g. s.beside z (inl (inl i)) (whole_right v tidy ol ok room body env heap base st end s o z g)) Always (Makes k) (writes k) (λ z i. i) rf in
-        part_end w funcs Q closed go reading room body env heap base st end o.now o.mid o.here (in_both o.parts.one o.parts.two) o.seq (P l k) r v j s apart or (joined_kept (neither l k) (writes_slot k) v tidy a b j ka kb is un) o.inner o.rest ((writes k ++ writes l) ++ heap) (o.more whole) (both_ended one two)
-        (told_forked v tidy ol ok room body env heap base st end s o a b j ka kb is un one two
-        (to_parts w funcs Q closed go reading l k r apart LeftView o.now o.one_end.unwritten o.parts.one o.here l a base one o.one_is (ta o.inner o.ls o.here heap base o.now o.one_end (fork_left v tidy ol ok room body env heap base st end s o)))
-        (to_parts w funcs Q closed go reading l k r apart RightView o.now o.two_end.unwritten o.parts.two o.here k b base two o.two_is (tb o.inner o.rs o.here (writes l ++ heap) base o.now o.two_end (fork_right v tidy ol ok room body env heap base st end s o))))
+        part_end w funcs Q closed go reading room body env heap base st end o.now o.mid o.here (in_both o.parts.one o.parts.two) o.seq (P l k) r v j s apart or (joined_kept (neither l k) (writes_slot k) v tidy a b j ka kb is un) o.inner o.rest ((writes k ++ writes l) ++ heap) (o.more whole) all (both_ended one two)
+        (told_forked v tidy ol ok room body env heap base st end s o a b j ka kb is un drawn more all sum one two
+        (to_parts w funcs Q closed go reading l k r apart LeftView o.now o.one_end.unwritten o.parts.one o.here l a base drawn one o.one_is (ta o.inner o.ls o.here heap base o.now o.one_end (fork_left v tidy ol ok room body env heap base st end s o)))
+        (to_parts w funcs Q closed go reading l k r apart RightView o.now o.two_end.unwritten o.parts.two o.here k b base more two o.two_is (tb o.inner o.rs o.here (writes l ++ heap) base o.now o.two_end (fork_right v tidy ol ok room body env heap base st end s o))))

@@ -1,5 +1,5 @@
 -- What a repair tells of a record, from what it tells of the record's parts.
-use Rattle.std.proofs.Common.{◌≡◌, ◌≢◌, ◌⊎◌, ℕ, suc, zero, Bool, List, [], ◌∷◌, ◌++◌, Some, None, Contains, AllPairs, length, ◌<◌, get_or, arith, refl, ap, sym, ◌∙◌, subst, inl, inr, ⊎_elim, append_assoc}
+use Rattle.std.proofs.Common.{◌≡◌, ◌≢◌, ◌⊎◌, ℕ, suc, zero, Bool, List, [], ◌∷◌, ◌++◌, Some, None, Contains, AllPairs, Option, length, ◌<◌, get_or, arith, refl, ap, sym, ◌∙◌, subst, inl, inr, ⊎_elim, append_assoc}
 use Rattle.std.proofs.lemmas.List.Elements.{Contains-append_cases}
 use Rattle.psac_ops.specs.declared.plain.Handle.{Handle}
 use Rattle.psac_ops.specs.Value.{Value}
@@ -9,6 +9,7 @@ use Rattle.psac_values.specs.declared.view.ValueView.{ValueView}
 use Rattle.psac_values.specs.Steps.{Lacks}
 use Rattle.psac_values.specs.Knowing.{Has}
 use Rattle.psac_slots.specs.Handles.{Member}
+use Rattle.psac_model.specs.declared.ends.CapKind.{CapKind}
 use Rattle.psac_model.specs.declared.ends.End.{End}
 use Rattle.psac_model.specs.declared.ends.End.TheVariants.{Done, Stop}
 use Rattle.psac_model.specs.Names.{Env}
@@ -20,14 +21,17 @@ use Rattle.psac_traced.specs.Places.{Makes, IsApart}
 use Rattle.psac_traced.specs.Parts.{IsClosed}
 use Rattle.psac_traced.specs.Mending.{mended}
 use Rattle.psac_traced.specs.Mended.{Mended}
+use Rattle.psac_cut_repair.specs.CutMended.{CutMended}
 use Rattle.psac_trace.specs.Rights.{Heap, held, In, Within, Wider, Sees, Target, Ready, Kept}
 use Rattle.psac_repair.specs.Ended.{Ended, Good, Fault, Other, then_ended}
-use Rattle.psac_repair.specs.Wanted.{NewMade}
+use Rattle.psac_trace.specs.Laws.{NewMade}
+use Rattle.psac_trace.specs.Grown.{Cause}
 use Rattle.psac_trace.proofs.Results.{ref_is}
 use Rattle.psac_trace.proofs.Heaps.{in_or_not, in_and_none, held_back, held_either, in_front, in_back, in_either, one_is, at_one, within_front, Fresh, fresh_then}
 use Rattle.psac_repair.specs.Scope.{Scope, GoesAlong, ReadsAlong, Fills}
 use Rattle.psac_repair.specs.Stood.{Stood, Owned}
 use Rattle.psac_repair.specs.Mends.{Still, Renewed, Told, PartEnd}
+use Rattle.psac_repair.proofs.Drawing.{Draw, DrawMost, Sum, draw_both, most_behind, draw_stop, most_stop}
 use Rattle.psac_repair.proofs.Fills.{fills_more}
 use Rattle.psac_repair.proofs.Before.{Left, Sequel, AtMade, AtWrote, wrote_fills, part_target, rest_target, part_not_rest, seq_scope, seq_fills, rest_unmade, filled}
 
@@ -165,23 +169,29 @@ module _ (w : Setting Handle) (funcs : List Func) (Q : List Stmt → Type 0) (cl
   left_of_stood v old room body env heap base st end s = record { so = s.so; meets = s.meets; left_it = s.left_it; before = s.before; unmade = s.unmade; beside = s.beside }
 
   -- one part before what another tells
-  lift_told : (old inner : Rec Handle) (f : Rec Handle → Rec Handle) (st sr : Standing) (left lr : List ℕ) (env here : Env Handle) (v x u : ValueView) (base basis : Heap)
+  lift_told : (old inner : Rec Handle) (f : Rec Handle → Rec Handle) (st sr : Standing) (left lr : List ℕ) (env here : Env Handle) (v x u : ValueView) (base basis : Heap) (drawn all : CapKind → ℕ)
       → ((other : Heap) → Wider base other → (new : Rec Handle) (end : End) → ((o : Heap) → Wider basis o → Mended w funcs Q o inner new end) → Mended w funcs Q other old (f new) end)
       → ((new : Rec Handle) → Fresh (writes new) basis → Fresh (writes (f new)) base)
       → ((new : Rec Handle) → Renewed sr lr here inner x u basis (writes new) → Renewed st left env old v u base (writes (f new)))
       → (Still sr lr here inner x u → Still st left env old v u)
       → (Within basis (Sees u) → Within base (Sees u))
       → ((new : Rec Handle) → NewMade x u (mended w.same inner new).created → NewMade v u (mended w.same old (f new)).created)
-      → (e : Ended) → Told w funcs Q sr lr here inner x u basis e → Told w funcs Q st left env old v u base (then_ended f e)
-  lift_told old inner f st sr left lr env here v x u base basis run fresh renewed still sees created (Good new) t =
-      (record { run = λ other wi. run other wi new Done t.0.run; fresh = fresh new t.0.fresh }, renewed new t.1, still t.2, created new t.3)
-  lift_told old inner f st sr left lr env here v x u base basis run fresh renewed still sees created (Fault k n) t =
-      (f t.0, record { run = λ other wi. run other wi t.0 (Stop k n) t.1.run; fresh = fresh t.0 t.1.fresh }, sees t.2, still t.3, created t.0 t.4)
-  lift_told old inner f st sr left lr env here v x u base basis run fresh renewed still sees created Other t = tt
+      → ((other : Heap) → Wider base other → (new : Rec Handle) (n : ℕ) → ((o : Heap) → Wider basis o → CutMended w funcs Q o inner new n) → CutMended w funcs Q other old (f new) n)
+      → ((new : Rec Handle) → Draw drawn (mended w.same inner new).added → Draw all (mended w.same old (f new)).added)
+      → ((new : Rec Handle) (n : ℕ) → DrawMost drawn (mended w.same inner new).added n → DrawMost all (mended w.same old (f new)).added n)
+      → (e : Ended) → Told w funcs Q sr lr here inner x u basis drawn e → Told w funcs Q st left env old v u base all (then_ended f e)
+  lift_told old inner f st sr left lr env here v x u base basis drawn all run fresh renewed still sees created cut draws most (Good new) t =
+      (record { run = λ other wi. run other wi new Done t.0.run; fresh = fresh new t.0.fresh }, renewed new t.1, still t.2, created new t.3, draws new t.4)
+  lift_told old inner f st sr left lr env here v x u base basis drawn all run fresh renewed still sees created cut draws most (Fault k n) t =
+      (f t.0, record { run = λ other wi. run other wi t.0 (Stop k n) t.1.run; fresh = fresh t.0 t.1.fresh }, sees t.2, still t.3, created t.0 t.4, draws t.0 t.5)
+  lift_told old inner f st sr left lr env here v x u base basis drawn all run fresh renewed still sees created cut draws most (Other why) t =
+      (f t.0, t.1, record { run = λ other wi. cut other wi t.0 t.1 t.2.run }, created t.0 t.3, most t.0 t.1 t.4, sees t.5)
 
   -- a part whose destinations are those of another place
-  pub told_into : (old : Rec Handle) (st sr : Standing) (left lr : List ℕ) (env here : Env Handle) (v u : ValueView) (base : Heap) → ((m : Handle) → Target sr lr here m → Target st left env m) → ((m : Handle) → Target st left env m → Target sr lr here m) → (e : Ended) → Told w funcs Q sr lr here old v u base e → Told w funcs Q st left env old v u base e
-  told_into old st sr left lr env here v u base into out (Good new) t = (
+  pub told_into : (old : Rec Handle) (st sr : Standing) (left lr : List ℕ) (env here : Env Handle) (v u : ValueView) (base : Heap) (drawn : CapKind → ℕ)
+      → ((m : Handle) → Target sr lr here m → Target st left env m) → ((m : Handle) → Target st left env m → Target sr lr here m)
+      → (e : Ended) → Told w funcs Q sr lr here old v u base drawn e → Told w funcs Q st left env old v u base drawn e
+  told_into old st sr left lr env here v u base drawn into out (Good new) t = (
     t.0,
     record {
       fills = record { closed = t.1.fills.closed; done = λ m k. t.1.fills.done m (out m k); spares = λ m h i. elim (t.1.fills.spares m h i) [ inl a ↦ inl (into m a) | inr b ↦ inr b ] };
@@ -190,9 +200,10 @@ module _ (w : Setting Handle) (funcs : List Func) (Q : List Stmt → Type 0) (cl
     },
     λ m x h n k s. t.2 m x h (λ a. n (into m a)) k s,
     t.3,
+    t.4,
   )
-  told_into old st sr left lr env here v u base into out (Fault k n) t = (t.0, t.1, t.2, λ m x h no ma s. t.3 m x h (λ a. no (into m a)) ma s, t.4)
-  told_into old st sr left lr env here v u base into out Other t = tt
+  told_into old st sr left lr env here v u base drawn into out (Fault k n) t = (t.0, t.1, t.2, λ m x h no ma s. t.3 m x h (λ a. no (into m a)) ma s, t.4, t.5)
+  told_into old st sr left lr env here v u base drawn into out (Other why) t = t
 
   module _ (room : ℕ) (body : List Stmt) (env : Env Handle) (heap base : Heap) (st end : Standing) where
     -- behind a `new`
@@ -209,9 +220,11 @@ module _ (w : Setting Handle) (funcs : List Func) (Q : List Stmt → Type 0) (cl
           beside = o.more.beside;
         }
 
-    pub told_made : (v u : ValueView) (m : Handle) (r : Rec Handle) → (o : AtMade w funcs Q closed go reading m r room body env heap st end) → (e : Ended) → Told w funcs Q o.mid end.unwritten o.here r v u base e → Told w funcs Q st end.unwritten env (A m r) v u base (then_ended (A m) e)
-    told_made v u m r o =
-        lift_told (A m r) r (A m) st o.mid end.unwritten end.unwritten env o.here v v u base base
+    pub told_made : (v u : ValueView) (m : Handle) (r : Rec Handle) → (o : AtMade w funcs Q closed go reading m r room body env heap st end)
+        → (drawn : CapKind → ℕ) (e : Ended) → Told w funcs Q o.mid end.unwritten o.here r v u base drawn e
+        → Told w funcs Q st end.unwritten env (A m r) v u base drawn (then_ended (A m) e)
+    told_made v u m r o drawn =
+        lift_told (A m r) r (A m) st o.mid end.unwritten end.unwritten env o.here v v u base base drawn drawn
         (λ other wi new last g. (refl, g other wi))
         (λ new f. f)
         (λ new t. record {
@@ -226,6 +239,9 @@ module _ (w : Setting Handle) (funcs : List Func) (Q : List Stmt → Type 0) (cl
         (λ t k x h no ma s. t k x h (λ g. elim (o.into k g) [ inl a ↦ no a | inr b ↦ ma (inl b) ]) (λ i. ma (inr i)) s)
         (λ s. s)
         (λ new t. t)
+        (λ other wi new n g. (refl, g other wi))
+        (λ new d. d)
+        (λ new n d. d)
 
     -- behind a write
     pub stood_wrote : (v : ValueView) (m : Handle) (y : Value Handle) (r : Rec Handle) → Sees v m y → Owned v r → Stood w funcs Q v (W m y r) room body env heap base st end → (o : AtWrote w funcs Q closed go reading m y r room body env heap st end) → Stood w funcs Q v r o.inner o.rest o.here ((m, y) ∷ heap) ((m, y) ∷ base) o.mid end
@@ -260,23 +276,29 @@ module _ (w : Setting Handle) (funcs : List Func) (Q : List Stmt → Type 0) (cl
           owned = λ m i. elim (in_either more one m i) [ inl a ↦ t.owned m a | inr b ↦ own m b ];
         }
 
-    pub told_wrote : (v u : ValueView) (m : Handle) (y : Value Handle) (r : Rec Handle) → Has v m → Kept v u → Scope w st end.unwritten env base → (o : AtWrote w funcs Q closed go reading m y r room body env heap st end) → (e : Ended) → Told w funcs Q o.mid end.unwritten o.here r v u ((m, y) ∷ base) e → Told w funcs Q st end.unwritten env (W m y r) v u base (then_ended (W m y) e)
-    told_wrote v u m y r h k sc o =
+    pub told_wrote : (v u : ValueView) (m : Handle) (y : Value Handle) (r : Rec Handle) → Has v m → Kept v u
+        → Scope w st end.unwritten env base → (o : AtWrote w funcs Q closed go reading m y r room body env heap st end)
+        → (drawn : CapKind → ℕ) (e : Ended) → Told w funcs Q o.mid end.unwritten o.here r v u ((m, y) ∷ base) drawn e
+        → Told w funcs Q st end.unwritten env (W m y r) v u base drawn (then_ended (W m y) e)
+    told_wrote v u m y r h k sc o drawn =
         let one : Heap = (m, y) ∷ [] in
         let empty : held base m ≡ None = none_of w st end.unwritten env base sc m (part_target w funcs Q closed go reading st end env o.now o.mid o.here o.left o.seq m o.target) in
         let fresh : Fresh one base = λ n i. subst (λ z. held base z ≡ None) (one_is m n y i.0 i.1).0 empty in
         let f = wrote_fills w funcs Q closed go reading room body env heap st end m y r o (Has v) (λ z. ⊥) base sc in
-        lift_told (W m y r) r (W m y) st o.mid end.unwritten end.unwritten env o.here v v u base ((m, y) ∷ base)
+        lift_told (W m y r) r (W m y) st o.mid end.unwritten end.unwritten env o.here v v u base ((m, y) ∷ base) drawn drawn
         (λ other wi new last g. (refl, refl, g ((m, y) ∷ other) (within_front one base other wi)))
         (λ new g. fresh_then base one (writes new) fresh g)
         (λ new t. renewed_seq o.now o.mid o.here o.left o.seq (λ z. ⊥) (W m y r) r v v u one (writes new) (λ z i. i) (λ z i. elim i [ inl a ↦ absurd a | inr b ↦ b ]) f (λ z i. subst (Has u) (one_is m z y i.0 i.1).0 (k.mine m h)) t)
         (λ t z x g no ma s. t z x g (λ q. no (rest_target w funcs Q closed go reading st end env o.now o.mid o.here o.left o.seq z q)) ma s)
         (within_base one base u fresh)
         (λ new t. t)
+        (λ other wi new n g. (refl, refl, g ((m, y) ∷ other) (within_front one base other wi)))
+        (λ new d. d)
+        (λ new n d. d)
 
     -- a part, and the rest
     module _ (now mid : Standing) (here : Env Handle) (left : List ℕ) (q : Sequel w funcs Q closed go reading st end env now mid here left) where
-      module _ (t r : Rec Handle) (v u : ValueView) (new : Rec Handle) (s : Stood w funcs Q v (S t r) room body env heap base st end) (apart : IsApart (S t r)) (ow : Owned v r) (k : Kept v u) (told : Told w funcs Q now left here t v u base (Good new)) where
+      module _ (t r : Rec Handle) (v u : ValueView) (new : Rec Handle) (s : Stood w funcs Q v (S t r) room body env heap base st end) (apart : IsApart (S t r)) (ow : Owned v r) (k : Kept v u) (drawn : CapKind → ℕ) (told : Told w funcs Q now left here t v u base drawn (Good new)) where
         part_in : (m : Handle) → Target now left here m → Target st end.unwritten env m
         part_in = part_target w funcs Q closed go reading st end env now mid here left q
 
@@ -313,29 +335,65 @@ module _ (w : Setting Handle) (funcs : List Func) (Q : List Stmt → Type 0) (cl
             (λ g. elim (f.spares m tt i) [ inl a ↦ s.beside m (inl g) (rest_in m a) | inr b ↦ apart.2 m g b ])
             sx) ow
 
-        pub told_next : (x : ValueView) → Kept u x → (e : Ended) → Told w funcs Q mid end.unwritten here r u x (writes new ++ base) e → Told w funcs Q st end.unwritten env (S t r) v x base (then_ended (S new) e)
-        told_next x kx =
-            lift_told (S t r) r (S new) st mid end.unwritten end.unwritten env here v u x base (writes new ++ base)
+        pub told_next : (x : ValueView) → Kept u x → (more all : CapKind → ℕ) → Sum drawn more all → (e : Ended)
+            → Told w funcs Q mid end.unwritten here r u x (writes new ++ base) more e
+            → Told w funcs Q st end.unwritten env (S t r) v x base all (then_ended (S new) e)
+        told_next x kx more all sum =
+            lift_told (S t r) r (S new) st mid end.unwritten end.unwritten env here v u x base (writes new ++ base) more all
             (λ other wi more last g. (Done, told.0.run other wi, g (writes new ++ other) (within_front (writes new) base other wi)))
             (λ more f. fresh_then base (writes new) (writes more) told.0.fresh f)
             (λ more t2. renewed_seq now mid here left q (Makes t) (S t r) r v u x (writes new) (writes more) k.mine (λ m i. i) told.1.fills (λ m i. kx.mine m (told.1.owned m i)) t2)
             (λ t2 m c h no ma sm. t2 m c (k.mine m h) (λ g. no (rest_in m g)) (λ i. ma (inr i)) (told.2 m c h (λ g. no (part_in m g)) (λ i. ma (inl i)) sm))
             (within_base (writes new) base x told.0.fresh)
             (λ more c. made_then v u x (mended w.same t new).created (mended w.same r more).created k kx told.3 c)
+            (λ other wi last n g. inr (told.0.run other wi, g (writes new ++ other) (within_front (writes new) base other wi)))
+            (λ last d. draw_both drawn more all (mended w.same t new).added (mended w.same r last).added sum told.4 d)
+            (λ last n d. most_behind drawn more all (mended w.same t new).added (mended w.same r last).added n sum told.4 d)
 
       -- where the part stops, so does the whole
-      pub told_stop : (t r : Rec Handle) (v u : ValueView) (kind : _) (line : ℕ) → Told w funcs Q now left here t v u base (Fault kind line) → Told w funcs Q st end.unwritten env (S t r) v u base (Fault kind line)
-      told_stop t r v u kind line told = (
+      pub told_stop : (t r : Rec Handle) (v u : ValueView) (drawn : CapKind → ℕ) (kind : _) (line : ℕ)
+          → Told w funcs Q now left here t v u base drawn (Fault kind line)
+          → Told w funcs Q st end.unwritten env (S t r) v u base drawn (Fault kind line)
+      told_stop t r v u drawn kind line told = (
         S told.0 E,
         record { run = λ other wi. (Stop kind line, told.1.run other wi, (refl, refl)); fresh = told.1.fresh },
         told.2,
         λ m c h no ma sm. told.3 m c h (λ g. no (part_target w funcs Q closed go reading st end env now mid here left q m g)) (λ i. ma (inl i)) sm,
         subst (NewMade v u) (sym (ap (λ z. (mended w.same t told.0).created ++ z) (created_none w.same r) ∙ append_none (mended w.same t told.0).created)) told.4,
+        draw_stop w.same drawn (mended w.same t told.0).added r told.5,
+      )
+
+      -- and where it was cut short, the rest isn't reached
+      pub told_cut : (t r : Rec Handle) (v u : ValueView) (drawn : CapKind → ℕ) (why : Option Cause)
+          → Told w funcs Q now left here t v u base drawn (Other why)
+          → Told w funcs Q st end.unwritten env (S t r) v u base drawn (Other why)
+      told_cut t r v u drawn why told = (
+        S told.0 E,
+        told.1,
+        record { run = λ other wi. inl (told.2.run other wi, refl) },
+        subst (NewMade v u) (sym (ap (λ z. (mended w.same t told.0).created ++ z) (created_none w.same r) ∙ append_none (mended w.same t told.0).created)) told.3,
+        most_stop w.same drawn (mended w.same t told.0).added r told.1 told.4,
+        told.5,
       )
 
       -- what a part before the rest leaves
-      pub part_end : (t r : Rec Handle) (v u : ValueView) → Stood w funcs Q v (S t r) room body env heap base st end → IsApart (S t r) → Owned v r → Kept v u → (inner : ℕ) (rest : List Stmt) (over : Heap) → Here r inner rest here over mid end → (e : Ended) → Told w funcs Q now left here t v u base e → PartEnd w funcs Q t r st end.unwritten env v u base e
-      part_end t r v u s apart ow k inner rest over l (Good new) told =
-          (inner, rest, here, over, writes new ++ base, mid, end, stood_next t r v u new s apart ow k told inner rest over l, λ x e kx t2. told_next t r v u new s apart ow k told x kx e t2, refl, told.0, owned_next t r v u new s apart ow k told inner rest over l)
-      part_end t r v u s apart ow k inner rest over l (Fault kind line) told = told_stop t r v u kind line told
-      part_end t r v u s apart ow k inner rest over l Other told = tt
+      pub part_end : (t r : Rec Handle) (v u : ValueView) → Stood w funcs Q v (S t r) room body env heap base st end → IsApart (S t r)
+          → Owned v r → Kept v u → (inner : ℕ) (rest : List Stmt) (over : Heap) → Here r inner rest here over mid end
+          → (drawn : CapKind → ℕ) (e : Ended) → Told w funcs Q now left here t v u base drawn e
+          → PartEnd w funcs Q t r st end.unwritten env v u base drawn e
+      part_end t r v u s apart ow k inner rest over l drawn (Good new) told = (
+        inner,
+        rest,
+        here,
+        over,
+        writes new ++ base,
+        mid,
+        end,
+        stood_next t r v u new s apart ow k drawn told inner rest over l,
+        λ x more all e kx sum t2. told_next t r v u new s apart ow k drawn told x kx more all sum e t2,
+        refl,
+        told.0,
+        owned_next t r v u new s apart ow k drawn told inner rest over l,
+      )
+      part_end t r v u s apart ow k inner rest over l drawn (Fault kind line) told = told_stop t r v u drawn kind line told
+      part_end t r v u s apart ow k inner rest over l drawn (Other why) told = told_cut t r v u drawn why told

@@ -9,6 +9,7 @@ use Rattle.psac_syntax.specs.declared.program.Func.{Func}
 use Rattle.psac_values.specs.declared.view.ValueView.{ValueView}
 use Rattle.psac_model.specs.declared.ends.End.{End}
 use Rattle.psac_model.specs.declared.ends.End.TheVariants.{Done, Stop}
+use Rattle.psac_model.specs.declared.ends.CapKind.{CapKind}
 use Rattle.psac_model.specs.Names.{Env}
 use Rattle.psac_model.specs.Tree.{Reads}
 use Rattle.psac_model.specs.Expression.{Setting}
@@ -211,8 +212,10 @@ module _ (w : Setting Handle) (funcs : List Func) (Q : List Stmt → Type 0) (cl
         | inr d ↦ slots_apart u kept.tidy r.of n.0 i.0 (s.ready.sees r.of i.0 i.1) has d.0 (sym n.2)
       ])
 
-  pub unread_behind : (same : w.same ≡ same_handle) (v u : ValueView) (t k new : Tree) → IsApart (S (bare t) (bare k)) → Owned v (bare k) → Kept v u → Needs w funcs Q (S (bare t) (bare k)) v → TellsPart w funcs Q (bare t) (bare k) v u (Good (bare new)) → Unread (links_of new) k
-  unread_behind same v u t k new apart ow kept n told s i =
+  pub unread_behind : (same : w.same ≡ same_handle) (v u : ValueView) (t k new : Tree) (drawn : CapKind → ℕ) → IsApart (S (bare t) (bare k))
+      → Owned v (bare k) → Kept v u → Needs w funcs Q (S (bare t) (bare k)) v
+      → TellsPart w funcs Q (bare t) (bare k) v u drawn (Good (bare new)) → Unread (links_of new) k
+  unread_behind same v u t k new drawn apart ow kept n told s i =
       let p = told n.0 n.1 n.2 n.3 n.4 n.5 n.6 n.7 in
       let q = part_minds (bare t) (bare k) n.0 n.1 n.2 n.3 n.5 n.6 apart (left_of_stood w funcs Q closed go reading v (S (bare t) (bare k)) n.0 n.1 n.2 n.3 n.4 n.5 n.6 n.7) in
       let h = q.part (bare new) n.4 Done (p.10.run n.4 (λ m x e. e)) in
@@ -220,8 +223,10 @@ module _ (w : Setting Handle) (funcs : List Func) (Q : List Stmt → Type 0) (cl
       unread_over v u k p.0 p.1 p.2 p.3 p.4 p.5 p.6 apart.1 ow kept p.7 s (subst (λ z. In z s.of) (sym p.9) inside)
 
   -- and so it is with both sides of a par in turn
-  module _ (same : w.same ≡ same_handle) (v u : ValueView) (l k new : Tree) (r : Rec Handle) (apart : IsApart (S (P (bare l) (bare k)) r)) (tidy : Tidy v) (ol : Owned v (bare l)) (ok : Owned v (bare k)) (kept : Kept v u) where
-    side_at : (room : ℕ) (body : List Stmt) (env : Env Handle) (heap base : Heap) (st end : Standing) → Stood w funcs Q v (S (P (bare l) (bare k)) r) room body env heap base st end → Tells w funcs Q (bare l) v u (Good (bare new)) → Unread (links_of new) k
+  module _ (same : w.same ≡ same_handle) (v u : ValueView) (l k new : Tree) (r : Rec Handle) (drawn : CapKind → ℕ) (apart : IsApart (S (P (bare l) (bare k)) r)) (tidy : Tidy v) (ol : Owned v (bare l)) (ok : Owned v (bare k)) (kept : Kept v u) where
+    side_at : (room : ℕ) (body : List Stmt) (env : Env Handle) (heap base : Heap) (st end : Standing)
+        → Stood w funcs Q v (S (P (bare l) (bare k)) r) room body env heap base st end
+        → Tells w funcs Q (bare l) v u drawn (Good (bare new)) → Unread (links_of new) k
     side_at room body env heap base st end s told x i =
         let o = at_pair w funcs Q closed go reading room body env heap st end (bare l) (bare k) r apart (left_of_stood w funcs Q closed go reading v (S (P (bare l) (bare k)) r) room body env heap base st end s) in
         let t = told o.inner o.ls o.here heap base o.now o.one_end (stood_left w funcs Q closed go reading (bare l) (bare k) r apart v room body env heap base st end s o) in
@@ -245,5 +250,6 @@ module _ (w : Setting Handle) (funcs : List Func) (Q : List Stmt → Type 0) (cl
           | inr d ↦ slots_apart u kept.tidy x.of n.0 inside.0 (t.1.sees x.of inside.0 inside.1) (kept.mine n.0 has) d.0 (sym n.2)
         ])
 
-    pub unread_beside : Needs w funcs Q (S (P (bare l) (bare k)) r) v → Tells w funcs Q (bare l) v u (Good (bare new)) → Unread (links_of new) k
+    pub unread_beside : Needs w funcs Q (S (P (bare l) (bare k)) r) v → Tells w funcs Q (bare l) v u drawn (Good (bare new))
+        → Unread (links_of new) k
     unread_beside n told = side_at n.0 n.1 n.2 n.3 n.4 n.5 n.6 n.7 told

@@ -1,5 +1,5 @@
 -- A node is asked, words are looked at, and a node is cleared: what a call needs stands, and what it leaves is left from before.
-use Rattle.std.proofs.Common.{◌≡◌, ◌↔◌, ℕ, ◌<◌, Bool, true, false, if◌then◌else◌, IsTrue, List, [], ◌∷◌, ◌++◌, map, Option, Some, None, IfSome, refl, ap, sym, ◌∙◌, subst, ⊎_elim, append_assoc}
+use Rattle.std.proofs.Common.{◌≡◌, ◌↔◌, ℕ, ◌+◌, length, ◌<◌, Bool, true, false, if◌then◌else◌, IsTrue, List, [], ◌∷◌, ◌++◌, map, Option, Some, None, IfSome, refl, ap, sym, ◌∙◌, subst, ⊎_elim, append_assoc}
 use Rattle.psac_ops.specs.declared.plain.Handle.{Handle}
 use Rattle.psac_syntax.specs.declared.program.Stmt.{Stmt}
 use Rattle.psac_syntax.specs.declared.program.Func.{Func}
@@ -20,7 +20,7 @@ use Rattle.psac_traced.specs.Rec as rec
 use Rattle.psac_traced.specs.Rec.{Rec}
 use Rattle.psac_raise.specs.Raise.{LeadsIn}
 use Rattle.psac_trace.specs.Rights.{Heap}
-use Rattle.psac_trace.specs.Grown.{MoreClaims}
+use Rattle.psac_trace.specs.Grown.{MoreClaims, MoreValues}
 use Rattle.psac_record.specs.declared.parts.Seen.{Seen}
 use Rattle.psac_ops.specs.Named.{same_handle}
 use Rattle.psac_laws.proofs.Places.{test_or}
@@ -32,12 +32,14 @@ use Rattle.psac_repair.specs.Outcomes.{OnGood}
 use Rattle.psac_repair.specs.Stood.{Stood, Owned}
 use Rattle.psac_repair.specs.Seen.{Known}
 use Rattle.psac_repair.specs.Marks.{Nodes}
-use Rattle.psac_repair.specs.Wanted.{NewMade}
+use Rattle.psac_trace.specs.Laws.{NewMade}
 use Rattle.psac_repair.specs.Mends.{Told, Needs, Tells, PartEnd, TellsPart}
 use Rattle.psac_repair.specs.Planted.{slots, tops, NoneMarked, Planted, Passed}
 use Rattle.psac_repair.specs.Watched.{Watched}
 use Rattle.psac_repair.specs.Rewired.{Unread}
-use Rattle.psac_repair.specs.Going.{Views, claims_of, Before, Lasting, Beside, Went, After}
+use Rattle.psac_repair.specs.Going.{Views, claims_of, Before, Lasting, FullBy, Beside, Went, After}
+use Rattle.psac_trace.proofs.Moving.{each_cap}
+use Rattle.psac_repair.proofs.Filling.{full_before}
 use Rattle.psac_repair.proofs.Asking.{quiet_step, quiet_pair, quiet_block}
 use Rattle.psac_repair.proofs.Parting.{families_map}
 use Rattle.psac_repair.proofs.Rewiring.{led_on}
@@ -49,13 +51,13 @@ use Rattle.psac_traced.specs.Mending.{mended, unlike}
 
 pub on_good : {A B : Type 0} (e : Ended) → (A → B) → OnGood e A → OnGood e B
 on_good (Good r) f a = f a
-on_good (Fault kind line) f a = tt
-on_good Other f a = tt
+on_good (Fault why line) f a = tt
+on_good (Other why) f a = tt
 
 pub good_then : {A B : Type 0} (h : Rec Handle → Rec Handle) (e : Ended) → (A → B) → OnGood e A → OnGood (then_ended h e) B
 good_then h (Good r) f a = f a
-good_then h (Fault kind line) f a = tt
-good_then h Other f a = tt
+good_then h (Fault why line) f a = tt
+good_then h (Other why) f a = tt
 
 -- what was run again is of the new record
 
@@ -205,8 +207,27 @@ module _ (N : Rec Handle → ValueView → Type 0) (funcs : List Func) (us : Lis
   claims_asked q drew f cap.Mods = f cap.Mods
   claims_asked q drew f cap.Links = f cap.Links
 
-  lasting_asked : (q : Views) → Lasting after_asking q → Lasting p q
-  lasting_asked q l = record { stays = l.stays; drew = l.drew; claims = claims_asked q l.drew l.claims }
+  abbrev lasting_asked : (q : Views) → Lasting after_asking q → Lasting p q
+  lasting_asked q l =
+      record {
+        stays = l.stays;
+        drew = l.drew;
+        claims = claims_asked q l.drew l.claims;
+        drawn = l.drawn;
+        indexes = each_cap (λ c. length (claims_of c q).drawn ≡ length (claims_of c p).drawn + l.drawn c) (l.indexes cap.Nodes) (l.indexes cap.Mods) (l.indexes cap.Links);
+        mods = l.mods;
+        values = l.values;
+        mods_drew = l.mods_drew;
+        nodes = l.nodes;
+        gone_nodes = l.gone_nodes;
+        swapped = record { held = l.swapped.held; dropped = l.swapped.dropped };
+        own = l.own;
+        nodes_drew = l.nodes_drew;
+        shared = l.shared;
+      }
+
+  full_asked : (q : Views) (e : Ended) → FullBy after_asking q e → FullBy p q e
+  full_asked q e = full_before after_asking p q (each_cap (λ c. claims_of c p ≡ claims_of c after_asking) refl refl refl) e
 
   beside_asked : (q : Views) → Beside us k after_asking q → Beside us k p q
   beside_asked q b = record { room = b.room; sets = b.sets; rooted = b.rooted; passed = passed_asked p.marks n q.marks us (slots k) b.passed; steady = b.steady }
@@ -222,16 +243,21 @@ module _ (N : Rec Handle → ValueView → Type 0) (funcs : List Func) (us : Lis
         woken = w.woken;
       }
 
-  pub asked_after : (T : ValueView → ValueView → Ended → Type 0) (new : Kept) (q : Views) (e : Ended) → After T us above k new after_asking q e → After T us above k new p q e
+  pub asked_after : (T : ValueView → ValueView → (CapKind → ℕ) → Ended → Type 0) (new : Kept) (q : Views) (e : Ended)
+      → After T us above k new after_asking q e → After T us above k new p q e
   asked_after T new q e a =
       record {
         lasting = lasting_asked q a.lasting;
         tells = a.tells;
+        room = a.room;
+        full = full_asked q e a.full;
         gone = a.gone;
         made = a.made;
+        links_drew = a.links_drew;
         relinks = a.relinks;
         beside = on_good e (beside_asked q) a.beside;
         went = on_good e (went_asked q new a.gone a.made) a.went;
+        replaced = a.replaced;
       }
 
 -- words were looked at
@@ -255,6 +281,17 @@ module _ (v : ValueView) (n : ℕ) where
   watched_looked m (P h t r) w = (watched_looked m t w.0, watched_looked m r w.1)
   watched_looked m (R b t) w = ((known_looked b.reads w.0.0, w.0.1), watched_looked m t w.1)
 
+  -- what was made since words were looked at was made since before
+  pub values_unlooked : (u : ValueView) (ms : List Handle) → MoreValues looked u ms → MoreValues v u ms
+  values_unlooked u ms m =
+      record {
+        mine = m.mine;
+        held = m.held;
+        differ = m.differ;
+        lacked = λ h i. (let l = m.lacked h i in record { mine = l.mine; known = l.known });
+        has = m.has;
+      }
+
   made_looked : (u : ValueView) (ms : List Handle) → NewMade looked u ms → NewMade v u ms
   made_looked u ms c = record { distinct = c.distinct; lacked = λ m i. (let l = c.lacked m i in record { mine = l.mine; known = l.known }); has = c.has }
 
@@ -276,24 +313,40 @@ module _ (v : ValueView) (n : ℕ) where
     pub needs_looked : (old : Rec Handle) → Needs w funcs Q old v → Needs w funcs Q old looked
     needs_looked old a = (a.0, a.1, a.2, a.3, a.4, a.5, a.6, stood_looked old a.0 a.1 a.2 a.3 a.4 a.5 a.6 a.7)
 
-    told_looked : (st : Standing) (left : List ℕ) (env : Env Handle) (old : Rec Handle) (u : ValueView) (base : Heap) (e : Ended) → Told w funcs Q st left env old looked u base e → Told w funcs Q st left env old v u base e
-    told_looked st left env old u base (Good new) t = (t.0, record { fills = t.1.fills; sees = t.1.sees; owned = t.1.owned }, t.2, made_looked u (mended w.same old new).created t.3)
-    told_looked st left env old u base (Fault k l) t = (t.0, t.1, t.2, t.3, made_looked u (mended w.same old t.0).created t.4)
-    told_looked st left env old u base Other t = tt
+    told_looked : (st : Standing) (left : List ℕ) (env : Env Handle) (old : Rec Handle) (u : ValueView) (base : Heap) (drawn : CapKind → ℕ) (e : Ended)
+        → Told w funcs Q st left env old looked u base drawn e → Told w funcs Q st left env old v u base drawn e
+    told_looked st left env old u base drawn (Good new) t = (t.0, record { fills = t.1.fills; sees = t.1.sees; owned = t.1.owned }, t.2, made_looked u (mended w.same old new).created t.3, t.4)
+    told_looked st left env old u base drawn (Fault k l) t = (t.0, t.1, t.2, t.3, made_looked u (mended w.same old t.0).created t.4, t.5)
+    told_looked st left env old u base drawn (Other why) t = (t.0, t.1, t.2, made_looked u (mended w.same old t.0).created t.3, t.4, t.5)
 
-    pub tells_looked : (old : Rec Handle) (u : ValueView) (e : Ended) → Tells w funcs Q old looked u e → Tells w funcs Q old v u e
-    tells_looked old u e t room body env heap base st end s =
-        told_looked st end.unwritten env old u base e (t room body env heap base st end (stood_looked old room body env heap base st end s))
+    pub tells_looked : (old : Rec Handle) (u : ValueView) (drawn : CapKind → ℕ) (e : Ended) → Tells w funcs Q old looked u drawn e
+        → Tells w funcs Q old v u drawn e
+    tells_looked old u drawn e t room body env heap base st end s =
+        told_looked st end.unwritten env old u base drawn e (t room body env heap base st end (stood_looked old room body env heap base st end s))
 
-    part_looked : (part rest : Rec Handle) (st : Standing) (left : List ℕ) (env : Env Handle) (u : ValueView) (base : Heap) (e : Ended) → PartEnd w funcs Q part rest st left env looked u base e → PartEnd w funcs Q part rest st left env v u base e
-    part_looked part rest st left env u base (Good new) t =
-        (t.0, t.1, t.2, t.3, t.4, t.5, t.6, t.7, λ x e k more. told_looked st left env (rec.S part rest) x base (then_ended (rec.S new) e) (t.8 x e k more), t.9, t.10, t.11)
-    part_looked part rest st left env u base (Fault k l) t = told_looked st left env (rec.S part rest) u base (Fault k l) t
-    part_looked part rest st left env u base Other t = tt
+    part_looked : (part rest : Rec Handle) (st : Standing) (left : List ℕ) (env : Env Handle) (u : ValueView) (base : Heap) (drawn : CapKind → ℕ) (e : Ended)
+        → PartEnd w funcs Q part rest st left env looked u base drawn e → PartEnd w funcs Q part rest st left env v u base drawn e
+    part_looked part rest st left env u base drawn (Good new) t = (
+      t.0,
+      t.1,
+      t.2,
+      t.3,
+      t.4,
+      t.5,
+      t.6,
+      t.7,
+      λ x more all e k sum told. told_looked st left env (rec.S part rest) x base all (then_ended (rec.S new) e) (t.8 x more all e k sum told),
+      t.9,
+      t.10,
+      t.11,
+    )
+    part_looked part rest st left env u base drawn (Fault k l) t = told_looked st left env (rec.S part rest) u base drawn (Fault k l) t
+    part_looked part rest st left env u base drawn (Other why) t = told_looked st left env (rec.S part rest) u base drawn (Other why) t
 
-    pub rest_looked : (part rest : Rec Handle) (u : ValueView) (e : Ended) → TellsPart w funcs Q part rest looked u e → TellsPart w funcs Q part rest v u e
-    rest_looked part rest u e t room body env heap base st end s =
-        part_looked part rest st end.unwritten env u base e (t room body env heap base st end (stood_looked (rec.S part rest) room body env heap base st end s))
+    pub rest_looked : (part rest : Rec Handle) (u : ValueView) (drawn : CapKind → ℕ) (e : Ended)
+        → TellsPart w funcs Q part rest looked u drawn e → TellsPart w funcs Q part rest v u drawn e
+    rest_looked part rest u drawn e t room body env heap base st end s =
+        part_looked part rest st end.unwritten env u base drawn e (t room body env heap base st end (stood_looked (rec.S part rest) room body env heap base st end s))
 
 module _ (N : Rec Handle → ValueView → Type 0) (funcs : List Func) (us : List ℕ) (above : Option Handle) (stood : Rec Handle) (k : Kept) (p : Views) (n : ℕ) where
   abbrev after_looking : Views
@@ -323,7 +376,9 @@ module _ (N : Rec Handle → ValueView → Type 0) (funcs : List Func) (us : Lis
   claims_looked q drew f cap.Mods = f cap.Mods
   claims_looked q drew f cap.Links = f cap.Links
 
-  pub looked_after : (T : ValueView → ValueView → Ended → Type 0) (new : Kept) (q : Views) (e : Ended) → (T after_looking.values q.values e → T p.values q.values e) → After T us above k new after_looking q e → After T us above k new p q e
+  pub looked_after : (T : ValueView → ValueView → (CapKind → ℕ) → Ended → Type 0) (new : Kept) (q : Views) (e : Ended)
+      → ((drawn : CapKind → ℕ) → T after_looking.values q.values drawn e → T p.values q.values drawn e)
+      → After T us above k new after_looking q e → After T us above k new p q e
   looked_after T new q e tells a =
       let l = a.lasting in
       record {
@@ -331,10 +386,24 @@ module _ (N : Rec Handle → ValueView → Type 0) (funcs : List Func) (us : Lis
           stays = record { branch = l.stays.branch; fixed = l.stays.fixed; known = l.stays.known; mine = l.stays.mine; tidy = l.stays.tidy };
           drew = l.drew;
           claims = claims_looked q l.drew l.claims;
+          drawn = l.drawn;
+          indexes = each_cap (λ c. length (claims_of c q).drawn ≡ length (claims_of c p).drawn + l.drawn c) (l.indexes cap.Nodes) (l.indexes cap.Mods) (l.indexes cap.Links);
+          mods = l.mods;
+          values = values_unlooked p.values n q.values l.mods l.values;
+          mods_drew = l.mods_drew;
+          nodes = l.nodes;
+          gone_nodes = l.gone_nodes;
+          swapped = record { held = l.swapped.held; dropped = l.swapped.dropped };
+          own = l.own;
+          nodes_drew = l.nodes_drew;
+          shared = l.shared;
         };
-        tells = tells a.tells;
+        tells = tells l.drawn a.tells;
+        room = a.room;
+        full = full_before after_looking p q (each_cap (λ c. claims_of c p ≡ claims_of c after_looking) refl refl refl) e a.full;
         gone = a.gone;
         made = a.made;
+        links_drew = a.links_drew;
         relinks = a.relinks;
         beside = on_good e (λ (b : Beside us k after_looking q). record { room = b.room; sets = b.sets; rooted = b.rooted; passed = b.passed; steady = b.steady }) a.beside;
         went = on_good e (λ (b : Went us above k new a.gone a.made after_looking q). record {
@@ -344,4 +413,5 @@ module _ (N : Rec Handle → ValueView → Type 0) (funcs : List Func) (us : Lis
           made_is = b.made_is;
           woken = woken_looked p.readers p.values after_looking.values q.values q.marks us (n, refl) b.woken;
         }) a.went;
+        replaced = a.replaced;
       }

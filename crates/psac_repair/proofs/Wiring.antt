@@ -67,12 +67,12 @@ blocks_wire r m us above b t p w =
     }
 
 pub part_reads : PartReads
-part_reads g v u t k new apart ow kept n told s i =
-    unread_behind g.setting g.funcs (IsCode g.funcs g.main) (code_closed g.funcs g.main) (goes_along g.setting g.funcs g.checked) (reads_along g.setting) g.same v u t k new apart ow kept n told s i
+part_reads g v u t k new drawn apart ow kept n told s i =
+    unread_behind g.setting g.funcs (IsCode g.funcs g.main) (code_closed g.funcs g.main) (goes_along g.setting g.funcs g.checked) (reads_along g.setting) g.same v u t k new drawn apart ow kept n told s i
 
 pub side_reads : SideReads
-side_reads g v u l k new r apart tidy ol ok kept n told s i =
-    unread_beside g.setting g.funcs (IsCode g.funcs g.main) (code_closed g.funcs g.main) (goes_along g.setting g.funcs g.checked) (reads_along g.setting) g.same v u l k new r apart tidy ol ok kept n told s i
+side_reads g v u l k new r drawn apart tidy ol ok kept n told s i =
+    unread_beside g.setting g.funcs (IsCode g.funcs g.main) (code_closed g.funcs g.main) (goes_along g.setting g.funcs g.checked) (reads_along g.setting) g.same v u l k new r drawn apart tidy ol ok kept n told s i
 
 pub records_ordered : RecordsOrdered
 records_ordered g v m k apart tidy own h n =

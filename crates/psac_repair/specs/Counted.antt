@@ -7,8 +7,7 @@ use Rattle.psac_values.specs.Steps as values
 use Rattle.psac_marks.specs.declared.view.MarksView.{MarksView}
 use Rattle.psac_marks.specs.Steps as marks
 use Rattle.psac_model.specs.declared.ends.CapKind.{CapKind}
-use Rattle.psac_model.specs.declared.ends.CapKind.TheVariants as cap
-use Rattle.psac_model.specs.Fresh.{nodes_of}
+use Rattle.psac_cut.specs.Within.{count_of}
 use Rattle.psac_traced.specs.Rec as rec
 use Rattle.psac_traced.specs.Rec.{Rec}
 use Rattle.psac_traced.specs.Mending.{Mending, mended, unlike}
@@ -25,9 +24,7 @@ done old new = mended same_handle (bare old) (bare new)
 
 -- the slots of a table that stand in place of what ran again
 abbrev pub drawn_for : CapKind → Mending Handle → ℕ
-drawn_for cap.Nodes d = nodes_of d.added
-drawn_for cap.Mods d = d.added.mods
-drawn_for cap.Links d = d.added.links
+drawn_for c d = count_of c d.added
 
 -- a number, where something ran again
 abbrev pub where_any : ℕ → ℕ → ℕ

@@ -19,6 +19,7 @@ use Rattle.psac_trace.specs.Grown.{MoreValues, MoreNodes}
 use Rattle.psac_repair.specs.Divided.{has_node, outside}
 use Rattle.psac_repair.specs.Planted.{slots}
 use Rattle.psac_repair.specs.Taken.{nodes_up}
+use Rattle.psac_repair.specs.Taking.{taken, given}
 use Rattle.psac_repair.specs.Rewired.{reads_in}
 use Rattle.psac_repair.specs.WatchLaws.{left_view, right_view}
 use Rattle.psac_repair.specs.Counted.{done}
@@ -52,6 +53,13 @@ ExchangedBlock = (b : Reading) (t u : Kept) (gone made : List Kept) → Exchange
 
 abbrev pub ExchangedAgain : Type 0
 ExchangedAgain = (b c : Reading) (t u : Kept) → c.node ≡ b.node → reads_in c ≡ reads_in b → unlike same_handle (reads_of b.reads) (reads_of c.reads) ≡ true → Exchanged (R b t) (R c u) (added t []) (added u [])
+
+-- what a pass made, and the slots that it dropped, are those of the subtrees by which the new record differs
+pub record Replaced (old new : Kept) (mods nodes : List Handle) (gone : List ℕ) : Type 0 where
+  pub mods_are : mods ≡ all_of made_of (given old new)
+  pub nodes_are : nodes ≡ all_of nodes_in (given old new)
+  pub gone_are : gone ≡ all_of slots (taken old new)
+  pub exchanged : Exchanged old new (taken old new) (given old new)
 
 -- of a pass's nodes: these are held beside those before, and these slots are dropped
 pub record Swapped (m n : MarksView) (gone : List ℕ) (made : List Handle) : Type 0 where

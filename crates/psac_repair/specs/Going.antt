@@ -1,10 +1,12 @@
 -- What a call of the walk needs of a pass, and what it leaves, in layers: each is an algebra of its own.
-use Rattle.std.specs.Prelude.{◌≡◌, ℕ, List, Option}
+use Rattle.std.specs.Prelude.{◌≡◌, ℕ, ◌+◌, ◌≤◌, ◌<◌, List, length, Option, Some, sum_by}
 use Rattle.psac_ops.specs.declared.plain.Handle.{Handle}
 use Rattle.psac_syntax.specs.declared.program.Func.{Func}
+use Rattle.psac_slots.specs.Claiming.{times}
 use Rattle.psac_slots.specs.declared.view.ClaimView.{ClaimView}
 use Rattle.psac_values.specs.declared.view.ValueView.{ValueView}
 use Rattle.psac_readers.specs.declared.view.ReadersView.{ReadersView}
+use Rattle.psac_marks.specs.declared.view.OwnView.{OwnView}
 use Rattle.psac_marks.specs.declared.view.MarksView.{MarksView}
 use Rattle.psac_marks.specs.Steps.{cleared}
 use Rattle.psac_fork.specs.declared.tables.Pass.{Pass}
@@ -15,15 +17,16 @@ use Rattle.psac_traced.specs.Places.{IsApart}
 use Rattle.psac_trace.specs.Rights.{Tidy, Kept as Stays}
 use Rattle.psac_trace.specs.Told.{AreChecked}
 use Rattle.psac_trace.specs.Fit.{SetsReady, Rooted}
-use Rattle.psac_trace.specs.Grown.{MoreClaims}
+use Rattle.psac_trace.specs.Grown.{MoreClaims, MoreValues, Cause, nodes_in as handles_in}
 use Rattle.psac_record.specs.Kept.{Kept, Stands, links_of, all_of}
-use Rattle.psac_repair.specs.Ended.{Ended}
+use Rattle.psac_repair.specs.Ended.{Ended, Good, Fault, Other}
 use Rattle.psac_repair.specs.Outcomes.{OnGood}
 use Rattle.psac_repair.specs.Stood.{Owned}
 use Rattle.psac_repair.specs.Planted.{slots, Planted, Passed, Replanted, Halves}
 use Rattle.psac_repair.specs.Unshared.{Unshared}
 use Rattle.psac_repair.specs.Taking.{taken, given}
 use Rattle.psac_repair.specs.Rewired.{Ordered, Wired, Relinks, Rewired}
+use Rattle.psac_repair.specs.Exchanged.{Swapped, Replaced}
 use Rattle.psac_repair.specs.FitLaws.{Unspared}
 use Rattle.psac_repair.specs.Watched.{Watched, Woken, Steady}
 
@@ -74,6 +77,37 @@ pub record Lasting (p q : Views) : Type 0 where
   -- so many slots were claimed of each table, each from the list
   pub drew : CapKind → ℕ
   pub claims : (c : CapKind) → MoreClaims (claims_of c p) (claims_of c q) (drew c)
+  -- and so many indexes were drawn of it, with those past the list
+  pub drawn : CapKind → ℕ
+  pub indexes : (c : CapKind) → length (claims_of c q).drawn ≡ length (claims_of c p).drawn + drawn c
+  -- these modifiables were made, one in each slot that was claimed
+  pub mods : List Handle
+  pub values : MoreValues p.values q.values mods
+  pub mods_drew : drew cap.Mods ≡ length mods
+  -- so were these nodes, each with its parent, and the nodes of these slots are dropped
+  pub nodes : List OwnView
+  pub gone_nodes : List ℕ
+  pub swapped : Swapped p.marks q.marks gone_nodes (handles_in nodes)
+  pub own : (g : OwnView → ℕ) → sum_by g q.marks.own ≡ sum_by g p.marks.own + sum_by g nodes
+  pub nodes_drew : drew cap.Nodes ≡ length nodes
+  pub shared : q.marks.shared ≡ p.marks.shared
+
+-- where a call ended with a record or at a fault, it drew no index past the list
+abbrev pub RoomAfter : Views → Ended → Type 0
+RoomAfter q (Good r) = Roomy q
+RoomAfter q (Fault why line) = Roomy q
+RoomAfter q (Other why) = Unit {0}
+
+-- the call drew the index, and it isn't below the length of the list
+pub record IsFull (p q : Views) (c : Cause) : Type 0 where
+  pub list : c.room ≡ length (claims_of c.which p).list
+  pub past : c.room ≤ c.index
+  pub drew : times c.index (claims_of c.which p).drawn < times c.index (claims_of c.which q).drawn
+
+-- a full table is so by an index that this call drew
+abbrev pub FullBy : Views → Views → Ended → Type 0
+FullBy p q (Other (Some c)) = IsFull p q c
+FullBy p q e = Unit {0}
 
 -- what it leaves outside of the record: nodes and words of others stand as they stood, and marks were only raised
 pub record Beside (us : List ℕ) (k : Kept) (p q : Views) : Type 0 where
@@ -91,17 +125,22 @@ pub record Went (us : List ℕ) (above : Option Handle) (k new : Kept) (gone mad
   pub made_is : made ≡ all_of links_of (given k new)
   pub woken : Woken p.readers p.values q.values q.marks us
 
--- what a call on k leaves, by which k became `new`. What is told of values, T, is of the record alone or of a part of a body. Where
--- there is no new record, also where a block stopped at a fault, no more is told than what lasts and what the end says
-pub record After (T : ValueView → ValueView → Ended → Type 0) (us : List ℕ) (above : Option Handle) (k new : Kept) (p q : Views) (e : Ended) : Type 0 where
+-- what a call on k leaves, by which k became `new`. What is told of values and of the indexes that were drawn, T, is of the record
+-- alone or of a part of a body. Where there is no new record, also where a block stopped at a fault, no more is told than what lasts
+-- and what the end says
+pub record After (T : ValueView → ValueView → (CapKind → ℕ) → Ended → Type 0) (us : List ℕ) (above : Option Handle) (k new : Kept) (p q : Views) (e : Ended) : Type 0 where
   pub lasting : Lasting p q
-  pub tells : T p.values q.values e
-  -- these links of the record were left, and these entered
+  pub tells : T p.values q.values lasting.drawn e
+  pub room : RoomAfter q e
+  pub full : FullBy p q e
+  -- these links of the record were left, and these entered, one in each slot that was claimed
   pub gone : List Stands
   pub made : List Stands
+  pub links_drew : lasting.drew cap.Links ≡ length made
   pub relinks : Relinks p.readers q.readers k gone made
   pub beside : OnGood e (Beside us k p q)
   pub went : OnGood e (Went us above k new gone made p q)
+  pub replaced : OnGood e (Replaced k new lasting.mods (handles_in lasting.nodes) lasting.gone_nodes)
 
 -- both parts below a node are done, and the node isn't cleared yet. The node with both is f of them
 pub record WentBelow (us : List ℕ) (n : Handle) (f : Kept → Kept → Kept) (a b u w : Kept) (gone made : List Stands) (p q : Views) : Type 0 where
@@ -111,14 +150,18 @@ pub record WentBelow (us : List ℕ) (n : Handle) (f : Kept → Kept → Kept) (
   pub made_is : made ≡ all_of links_of (given (f a b) (f u w))
   pub woken : Woken p.readers p.values q.values q.marks us
 
-pub record AfterBelow (T : ValueView → ValueView → Ended → Type 0) (us : List ℕ) (n : Handle) (f : Kept → Kept → Kept) (a b u w : Kept) (p q : Views) (e : Ended) : Type 0 where
+pub record AfterBelow (T : ValueView → ValueView → (CapKind → ℕ) → Ended → Type 0) (us : List ℕ) (n : Handle) (f : Kept → Kept → Kept) (a b u w : Kept) (p q : Views) (e : Ended) : Type 0 where
   pub lasting : Lasting p q
-  pub tells : T p.values q.values e
+  pub tells : T p.values q.values lasting.drawn e
+  pub room : RoomAfter q e
+  pub full : FullBy p q e
   pub gone : List Stands
   pub made : List Stands
+  pub links_drew : lasting.drew cap.Links ≡ length made
   pub relinks : Relinks p.readers q.readers (f a b) gone made
   pub beside : OnGood e (Beside us (f a b) p q)
   pub went : OnGood e (WentBelow us n f a b u w gone made p q)
+  pub replaced : OnGood e (Replaced (f a b) (f u w) lasting.mods (handles_in lasting.nodes) lasting.gone_nodes)
 
 -- a node was asked
 abbrev pub Asks : Views → Views → Type 0

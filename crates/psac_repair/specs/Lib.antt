@@ -26,3 +26,5 @@ pub mod Going
 pub mod WalkLaws
 pub mod Repairing
 pub mod Rebuilt
+pub mod Indexed
+pub mod Whole

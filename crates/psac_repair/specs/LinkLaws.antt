@@ -14,6 +14,7 @@ use Rattle.psac_record.specs.declared.parts.Reading.{Reading}
 use Rattle.psac_record.specs.Kept.{Kept, A, W, S, P, R, Stands, links_of, bare}
 use Rattle.psac_trace.specs.Fit.{Rooted}
 use Rattle.psac_trace.specs.Grown.{MoreLinks, as_link}
+use Rattle.psac_model.specs.declared.ends.CapKind.{CapKind}
 use Rattle.psac_traced.specs.Rec as rec
 use Rattle.psac_traced.specs.Places.{IsApart}
 use Rattle.psac_trace.specs.Rights.{Tidy, Kept as Stays}
@@ -91,12 +92,16 @@ BlocksWire = (r : ReadersView) (m : MarksView) (us : List ℕ) (above : Option H
 
 -- what stands in place of a part reads nothing that is still to be written behind it
 abbrev pub PartReads : Type 0
-PartReads = (g : Program) (v u : ValueView) (t k new : Kept) → IsApart (rec.S (bare t) (bare k)) → Owned v (bare k) → Stays v u → NeedsOf g (rec.S (bare t) (bare k)) v → PartOf g (bare t) (bare k) v u (Good (bare new)) → Unread (links_of new) k
+PartReads =
+    (g : Program) (v u : ValueView) (t k new : Kept) (drawn : CapKind → ℕ) → IsApart (rec.S (bare t) (bare k)) → Owned v (bare k)
+    → Stays v u → NeedsOf g (rec.S (bare t) (bare k)) v → PartOf g (bare t) (bare k) v u drawn (Good (bare new)) → Unread (links_of new) k
 
 -- and so it is with what stands in place of the left side of a par, before the right one
 abbrev pub SideReads : Type 0
 SideReads =
-    (g : Program) (v u : ValueView) (l k new : Kept) (r : rec.Rec Handle) → IsApart (rec.S (rec.P (bare l) (bare k)) r) → Tidy v → Owned v (bare l) → Owned v (bare k) → Stays v u → NeedsOf g (rec.S (rec.P (bare l) (bare k)) r) v → TellsOf g (bare l) v u (Good (bare new)) → Unread (links_of new) k
+    (g : Program) (v u : ValueView) (l k new : Kept) (r : rec.Rec Handle) (drawn : CapKind → ℕ)
+    → IsApart (rec.S (rec.P (bare l) (bare k)) r) → Tidy v → Owned v (bare l) → Owned v (bare k) → Stays v u
+    → NeedsOf g (rec.S (rec.P (bare l) (bare k)) r) v → TellsOf g (bare l) v u drawn (Good (bare new)) → Unread (links_of new) k
 
 -- a record that a run left, and whose reads the pass knows, is ordered
 abbrev pub RecordsOrdered : Type 0

@@ -1,5 +1,5 @@
 -- How a call of the walk ended, told of the record that it hands back, and its numbers.
-use Rattle.std.specs.Prelude.{◌≡◌, Bool, true, false, ◌-◌, Result, Ok, Err, IfOk}
+use Rattle.std.specs.Prelude.{◌≡◌, Bool, true, false, ◌-◌, Result, Ok, Err, Some, None, IfOk}
 use Rattle.psac_ops.specs.declared.plain.Handle.{Handle}
 use Rattle.psac_ops.specs.Named.{same_handle}
 use Rattle.psac_model.specs.Fresh.{levels}
@@ -12,7 +12,7 @@ use Rattle.psac_record.specs.Dropped.{dropped_of}
 use Rattle.psac_record.specs.Shown.{kept_of, rec_of}
 use Rattle.psac_trace.specs.declared.halt.Halt.{Halt}
 use Rattle.psac_trace.specs.declared.halt.Halt.TheVariants as halt
-use Rattle.psac_repair.specs.Ended.{Ended, Good, Fault, Other}
+use Rattle.psac_repair.specs.Ended.{Ended, Good, Fault, Other, first_why}
 use Rattle.psac_repair.specs.Taking.{taken}
 use Rattle.psac_repair.specs.Tallied.{tally_of}
 use Rattle.psac_repair.specs.declared.outcome.Stop.{Stop}
@@ -21,12 +21,12 @@ use Rattle.psac_repair.specs.declared.outcome.Outcome.{Outcome}
 
 abbrev pub halted : Halt → Ended
 halted (halt.Fault why line) = Fault why line
-halted (halt.Full which at) = Other
-halted halt.NoMemory = Other
+halted (halt.Full which at) = Other (Some (record { which = which; index = at.index; room = at.room }))
+halted halt.NoMemory = Other None
 
 abbrev pub stopped : Stop → Ended
 stopped (stop.Halt h) = halted h
-stopped stop.Unsettled = Other
+stopped stop.Unsettled = Other None
 
 -- the record that is left, or why there is none
 abbrev pub ended_by : {A : Type 0} → Result A Stop → Rec Handle → Ended
@@ -44,7 +44,7 @@ is_good e = false
 abbrev pub OnGood : Ended → Type 0 → Type 0
 OnGood (Good r) T = T
 OnGood (Fault why line) T = Unit {0}
-OnGood Other T = Unit {0}
+OnGood (Other why) T = Unit {0}
 
 -- two parts: want of memory and of slots goes first, and then the first one's fault
 abbrev pub pair_ended : (Rec Handle → Rec Handle → Rec Handle) → Ended → Ended → Ended
@@ -52,7 +52,9 @@ pair_ended f (Good a) (Good b) = Good (f a b)
 pair_ended f (Good a) (Fault k n) = Fault k n
 pair_ended f (Fault k n) (Good b) = Fault k n
 pair_ended f (Fault k n) (Fault j m) = Fault k n
-pair_ended f _ _ = Other
+pair_ended f (Good a) (Other why) = Other why
+pair_ended f (Fault k n) (Other why) = Other why
+pair_ended f (Other why) e = Other (first_why why e)
 
 -- a record of a body, and not of both sides of a par or of a read block
 abbrev pub is_body : Kept → Bool

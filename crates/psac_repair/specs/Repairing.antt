@@ -6,6 +6,7 @@ use Rattle.psac_syntax.specs.declared.program.Stmt.TheOpen.{Stmt-F}
 use Rattle.psac_syntax.specs.declared.program.ReadItem.{ReadItem}
 use Rattle.psac_values.specs.declared.view.ValueView.{ValueView}
 use Rattle.psac_fork.specs.declared.tables.Pass.{Pass}
+use Rattle.psac_model.specs.declared.ends.CapKind.{CapKind}
 use Rattle.psac_model.specs.Expression.{Setting}
 use Rattle.psac_traced.specs.Rec.{Rec, S}
 use Rattle.psac_traced.specs.Bodies.{IsCode}
@@ -16,7 +17,7 @@ use Rattle.psac_repair.specs.declared.outcome.Outcome.{Outcome}
 use Rattle.psac_repair.specs.declared.world.Code.{Code}
 use Rattle.psac_repair.specs.declared.world.World.{World}
 use Rattle.psac_repair.specs.Ended.{Ended}
-use Rattle.psac_repair.specs.Mends.{Needs, TellsPart}
+use Rattle.psac_repair.specs.Mends.{Needs, Tells, TellsPart}
 use Rattle.psac_repair.specs.Outcomes.{end_of}
 use Rattle.psac_repair.specs.Going.{Views, views, Before, After}
 
@@ -35,7 +36,10 @@ IsIndexed g =
 abbrev pub NeedsIn : World → Rec Handle → ValueView → Type 0
 NeedsIn g = Needs (setting_of g) g.funcs.now (Inside g)
 
-abbrev pub PartIn : World → Rec Handle → Rec Handle → ValueView → ValueView → Ended → Type 0
+abbrev pub TellsIn : World → Rec Handle → ValueView → ValueView → (CapKind → ℕ) → Ended → Type 0
+TellsIn g = Tells (setting_of g) g.funcs.now (Inside g)
+
+abbrev pub PartIn : World → Rec Handle → Rec Handle → ValueView → ValueView → (CapKind → ℕ) → Ended → Type 0
 PartIn g = TellsPart (setting_of g) g.funcs.now (Inside g)
 
 -- where a record stands with these nodes outside, below this one
@@ -52,3 +56,13 @@ LeavesPart g k rest new p q e =
 
 abbrev pub LeftPart : World → Kept → Kept → Pass → Pass → Outcome → Type 0
 LeftPart g k rest p q o = LeavesPart g k rest (kept_of o.tree) p q (end_of o)
+
+-- a call on a record
+abbrev pub Begins : World → Kept → Pass → Type 0
+Begins g k p = IsIndexed g × (us : List ℕ) × (above : Option Handle) × BeforeIn g us above (bare k) k (views p)
+
+abbrev pub Leaves : World → Kept → Kept → Pass → Pass → Ended → Type 0
+Leaves g k new p q e = (us : List ℕ) (above : Option Handle) → BeforeIn g us above (bare k) k (views p) → After (TellsIn g (bare k)) us above k new (views p) (views q) e
+
+abbrev pub Left : World → Kept → Pass → Pass → Outcome → Type 0
+Left g k p q o = Leaves g k (kept_of o.tree) p q (end_of o)

@@ -1,6 +1,6 @@
 -- The walk of a repair, call by call: what each call needs, from what its caller needs, and what the caller leaves, from what its
 -- calls leave.
-use Rattle.std.specs.Prelude.{◌≡◌, ℕ, true, false, List, ◌∷◌, ◌++◌, Option, Some}
+use Rattle.std.specs.Prelude.{◌≡◌, ℕ, true, false, List, ◌∷◌, ◌++◌, Option, Some, None}
 use Rattle.psac_ops.specs.declared.plain.Handle.{Handle}
 use Rattle.psac_ops.specs.declared.plain.Plain.{Plain}
 use Rattle.psac_ops.specs.Named.{value_of}
@@ -18,7 +18,7 @@ use Rattle.psac_traced.specs.Rec.{Rec}
 use Rattle.psac_traced.specs.Holds.{EachOf, EachRead}
 use Rattle.psac_record.specs.declared.parts.Reading.{Reading}
 use Rattle.psac_record.specs.Kept.{Kept, A, W, S, P, R, Stands, bare, reads_of}
-use Rattle.psac_repair.specs.Ended.{Ended, Good, Other, then_ended, both_ended}
+use Rattle.psac_repair.specs.Ended.{Ended, Good, Other, then_ended, both_ended, untried_ended}
 use Rattle.psac_repair.specs.Outcomes.{is_body, is_good, block_round}
 use Rattle.psac_repair.specs.Marks.{Present}
 use Rattle.psac_repair.specs.Seen.{Known}
@@ -51,6 +51,17 @@ SidesAreKept =
 abbrev pub BlockIsKept : Type 0
 BlockIsKept =
     (g : Program) (us : List ℕ) (above : Option Handle) (c : Reading) (t rest : Kept) (p : Views) → Here g us above (rec.S (bare (R c t)) (bare rest)) (R c t) p → NoneMarked p.marks (slots (R c t)) → EachRead (Present p.values) (bare (R c t)) → PartGone g us above rest (R c t) (R c t) p p (Good (bare (R c t)))
+
+-- memory was wanting before anything was done
+abbrev pub RecordWants : Type 0
+RecordWants =
+    (g : Program) (us : List ℕ) (above : Option Handle) (k new : Kept) (p : Views) → Here g us above (bare k) k p
+    → Gone g us above k new p p (Other None)
+
+abbrev pub PartWants : Type 0
+PartWants =
+    (g : Program) (us : List ℕ) (above : Option Handle) (k rest new : Kept) (p : Views) → Here g us above (rec.S (bare k) (bare rest)) k p
+    → PartGone g us above rest k new p p (Other None)
 
 -- before a call a node was asked, or words were looked at
 abbrev pub AskedBegins : Type 0
@@ -105,10 +116,11 @@ pub record StepGoes (g : Program) (us : List ℕ) (above : Option Handle) (n : H
 abbrev pub StepsGo : Type 0
 StepsGo = (g : Program) (us : List ℕ) (above : Option Handle) (n : Handle) (t r : Kept) (p : Views) → Here g us above (bare (S n t r)) (S n t r) p → StepGoes g us above n t r p
 
--- both sides of a par, the left one first. Where that isn't done, nothing is told of the par
+-- both sides of a par, the left one first. Where that isn't done, the right one isn't tried
 pub record TurnsGo (g : Program) (us : List ℕ) (above : Option Handle) (n : Handle) (l k rest : Kept) (p : Views) : Type 0 where
   pub left : Here g (n.slot ∷ us ++ slots k) (Some n) (bare l) l p
-  pub out : (u new : Kept) (q : Views) (e : Ended) → is_good e ≡ false → Gone g (n.slot ∷ us ++ slots k) (Some n) l u p q e → PartGone g us above rest (P n l k) new p q Other
+  pub out : (u new : Kept) (q : Views) (e : Ended) → is_good e ≡ false → Gone g (n.slot ∷ us ++ slots k) (Some n) l u p q e
+      → PartGone g us above rest (P n l k) new p q (untried_ended e)
   pub right : (u : Kept) (q : Views) → Gone g (n.slot ∷ us ++ slots k) (Some n) l u p q (Good (bare u)) → Here g (n.slot ∷ us) (Some n) (bare k) k q
   pub stop : (u w new : Kept) (q x : Views) (e : Ended) → Gone g (n.slot ∷ us ++ slots k) (Some n) l u p q (Good (bare u)) → is_good e ≡ false → Gone g (n.slot ∷ us) (Some n) k w q x e → PartGone g us above rest (P n l k) new p x (then_ended (rec.P (bare u)) e)
   pub owns : (u w : Kept) (q x : Views) → Gone g (n.slot ∷ us ++ slots k) (Some n) l u p q (Good (bare u)) → Gone g (n.slot ∷ us) (Some n) k w q x (Good (bare w)) → Owns x.marks n

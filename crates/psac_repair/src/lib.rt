@@ -1,14 +1,15 @@
-//! The steps of a record's repair: what a block that is marked read against what is there now, running a block again, taking a
+//! The repair of a record, and its steps: what a block that is marked read against what is there now, running a block again, taking a
 //! subtree off, the division at a par, and clearing marks on the way up.
 #![tactic(auto)]
 
+pub mod blocks;
 pub mod counts;
 pub mod divide;
 pub mod entry;
 pub mod fits;
 pub mod laws;
 pub mod links;
-pub mod marks;
+pub mod mend;
 pub mod olds;
 pub mod outcome;
 pub mod present;

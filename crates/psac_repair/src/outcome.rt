@@ -1,5 +1,5 @@
 //! What a repair gives back beside the pass.
-ghost use Rattle.std.specs.Prelude.{◌≡◌, false, IfOk, Ok};
+ghost use Rattle.std.specs.Prelude.{◌≡◌, false, IfOk, Ok, None};
 ghost use Rattle.psac_ops.specs.declared.plain.Handle.{Handle};
 ghost use Rattle.psac_ops.specs.Named.{value_of as plain_value};
 ghost use Rattle.psac_traced.specs.Rec as rec;
@@ -9,7 +9,7 @@ ghost use Rattle.psac_record.specs.Kept as kept;
 ghost use Rattle.psac_record.specs.Kept.{Kept};
 ghost use Rattle.psac_record.specs.Shown.{kept_of, rec_of};
 ghost use Rattle.psac_repair.specs.declared.tally.Tally.{Tally as Numbers};
-ghost use Rattle.psac_repair.specs.Ended.{Good, Other, then_ended};
+ghost use Rattle.psac_repair.specs.Ended.{Good, Other, then_ended, untried_ended};
 ghost use Rattle.psac_repair.specs.Tallied.{tally_of};
 ghost use Rattle.psac_repair.specs.Outcomes.{stopped, ended_by, end_of, is_good, pair_ended, block_round, Counts};
 
@@ -51,7 +51,7 @@ impl Outcome {
 
     /// Want of memory, before anything was done.
     pub fn no_memory(tree: Record) -> Outcome
-        ensures end { end_of result ≡ Other }
+        ensures end { end_of result ≡ Other None }
         ensures counts { (k : Kept) → Counts k result }
     {
         Outcome {
@@ -75,7 +75,7 @@ impl Outcome {
 /// A par whose left side isn't done, and whose right side wasn't tried.
 pub fn untried(place: Box<Both<Record>>, one: Outcome, right: Record) -> Outcome
     requires { is_good (end_of one) ≡ false }
-    ensures end { end_of result ≡ Other }
+    ensures end { end_of result ≡ untried_ended (end_of one) }
     ensures counts { (k : Kept) → Counts k result }
 {
     let Outcome {

@@ -1,11 +1,17 @@
 //! The walk of a repair, call by call: what each call needs, and what its caller leaves. These functions have nothing to run.
-ghost use Rattle.psac_repair.specs.WalkLaws.{RecordIsKept, SidesAreKept, BlockIsKept, AskedBegins, AskedLeaves, PartAskedLeaves, LookedBegins, LookedLeaves, PartLookedLeaves, MadeGoes, WroteGoes, BodiesGo, StepsGo, SidesInTurn, SidesAtOnce, BlocksGo};
+ghost use Rattle.psac_repair.specs.WalkLaws.{RecordIsKept, SidesAreKept, BlockIsKept, RecordWants, PartWants, AskedBegins, AskedLeaves, PartAskedLeaves, LookedBegins, LookedLeaves, PartLookedLeaves, MadeGoes, WroteGoes, BodiesGo, StepsGo, SidesInTurn, SidesAtOnce, BlocksGo};
 
 /// A record none of whose nodes is marked, and that read what is present, is done as it is.
 pub fn quiet_records_are_done()
     ensures record { RecordIsKept }
     ensures sides { SidesAreKept }
     ensures block { BlockIsKept }
+{}
+
+/// Where memory is wanting before anything was done the pass is left as it was.
+pub fn want_of_memory_changes_nothing()
+    ensures record { RecordWants }
+    ensures part { PartWants }
 {}
 
 /// Asking a node and looking at words change nothing of what a call needs, nor of what it leaves.
