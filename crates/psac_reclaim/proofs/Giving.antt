@@ -1,12 +1,15 @@
 -- One modifiable or one node goes back, and then others.
-use Rattle.std.proofs.Common.{◌≡◌, ◌≢◌, ℕ, ◌+◌, ◌-◌, ◌<◌, List, [], ◌∷◌, ◌++◌, map, drop, Some, refl, sym, ap, ◌∙◌, inl, inr, ⊎_elim, arith, append_assoc, append-nil}
-use Rattle.std.specs.Prelude.{sum_by, filter}
+use Rattle.std.proofs.Common.{◌≡◌, ◌≢◌, ℕ, zero, suc, ◌+◌, ◌-◌, ◌<◌, List, [], ◌∷◌, ◌++◌, map, drop, Some, Bool, true, false, cond, refl, sym, ap, ◌∙◌, inl, inr, ⊎_elim, arith, append_assoc, append-nil}
+use Rattle.std.specs.Prelude.{sum_by, filter, not, ◌==◌, ◌&&◌}
 use Rattle.std.proofs.lemmas.List.Sums.{sum_by-cons, sum_by-append}
+use Rattle.std.proofs.lemmas.Bool.{cases_eq, eq-eqb, ne_eqb}
 use Rattle.psac_ops.specs.declared.plain.Handle.{Handle}
-use Rattle.psac_slots.specs.Handles.{Member, removed, later, IsDistinct}
+use Rattle.psac_slots.specs.Handles.{Member, removed, later, slot_times, IsDistinct}
 use Rattle.psac_slots.specs.Claiming as claiming
 use Rattle.psac_slots.specs.Claiming.{times}
+use Rattle.psac_slots.proofs.Given.{filter_twice, filter_all, filter_same}
 use Rattle.psac_slots.proofs.Pairs.{member_filter, filter_member, member_cases, member_left, member_right}
+use Rattle.psac_values.specs.declared.view.OwnedView.{OwnedView}
 use Rattle.psac_values.specs.declared.view.ValueView.{ValueView}
 use Rattle.psac_values.specs.Steps as values
 use Rattle.psac_values.specs.Steps.{made_handle, other_owned}
@@ -16,8 +19,8 @@ use Rattle.psac_marks.specs.Steps as marks
 use Rattle.psac_marks.specs.Steps.{other_own, other}
 use Rattle.psac_marks.proofs.Parts.{times_gone, times_else}
 use Rattle.psac_readers.proofs.Links.{sum_map}
-use Rattle.psac_reclaim.specs.Parts.{Outside}
-use Rattle.psac_reclaim.specs.Gave.{ValuesGave, MarksGave, out_of}
+use Rattle.psac_reclaim.specs.Parts.{Outside, is_outside}
+use Rattle.psac_reclaim.specs.Gave.{ValuesGave, MarksGave, out_of, is_other}
 use Rattle.psac_reclaim.proofs.Lists.{sum_removed, removed_less, differs, is_unlike}
 
 one_outside : (m : Handle) (s : ℕ) → s ≢ m.slot → Outside (m ∷ []) s
@@ -35,11 +38,33 @@ outside_right a b s n h m = n h (member_right h a b m)
 pub none_out : (s : ℕ) → Outside [] s
 none_out s h m = absurd m
 
+-- whether a slot is none of one handle's
+alone_test : (m : Handle) (s : ℕ) → not (s == m.slot) ≡ is_outside (m ∷ []) s
+alone_test m s = ⊎_elim
+    (λ (e : s ≡ m.slot). ap not (eq-eqb s m.slot e) ∙ sym (ap (λ n. n == 0) (times_one true (eq-eqb m.slot s (sym e)))))
+    (λ (d : s ≢ m.slot). ap not (ne_eqb s m.slot d) ∙ sym (ap (λ n. n == 0) (times_one false (ne_eqb m.slot s (λ q. d (sym q))))))
+    (cases_eq s m.slot)
+  where
+    times_one : (b : Bool) → (m.slot == s) ≡ b → slot_times s (m ∷ []) ≡ cond b 1 0
+    times_one b e =
+        let c = sum_by-cons (λ (h : Handle). cond (h.slot == s) 1 0) m [] in
+        let t : ◌≡◌ {A = ℕ} (cond (m.slot == s) 1 0) (cond b 1 0) = ap {B = ℕ} (λ x. cond x 1 0) e in
+        omega (arith, c, t)
+
+-- or of two lists' handles
+both_test : (a b : List Handle) (s : ℕ) → (is_outside a s && is_outside b s) ≡ is_outside (a ++ b) s
+both_test a b s = by (slot_times s a) (slot_times s b) ∙ ap (λ n. n == 0) (sym (sum_by-append (λ (h : Handle). cond (h.slot == s) 1 0) a b))
+  where
+    by : (n k : ℕ) → ((n == 0) && (k == 0)) ≡ ((n + k) == 0)
+    by zero k = let e : k ≡ 0 + k = omega arith in ap (λ z. z == 0) e
+    by (suc n) k = let e : suc n ≡ 0 → ⊥ = λ q. omega (arith, q) in let f : suc n + k ≡ 0 → ⊥ = λ q. omega (arith, q) in rw (ne_eqb (suc n) 0 e) (sym (ne_eqb (suc n + k) 0 f))
+
 pub values_none : (v : ValueView) → v.claims.counter ≡ Some 0 → ValuesGave [] v v
 values_none v b = record {
   list = sym (append-nil v.claims.list);
   out = λ g. omega arith;
   once = λ s. omega arith;
+  left = sym (filter_all (is_other []) v.mine (λ x i. refl));
   stays = λ x m n. m;
   mine = λ x m. (m, none_out x.of.slot);
   known = refl;
@@ -60,6 +85,9 @@ module _ (v : ValueView) (m : Handle) (b : v.claims.counter ≡ Some 0) (d : IsD
   held_is : removed (m.slot - v.fixed) v.claims.held ≡ removed o.0.slot v.claims.held
   held_is = ap (λ s. removed s v.claims.held) claimed_is
 
+  slot_back : v.fixed + (m.slot - v.fixed) ≡ m.slot
+  slot_back = let e = slot_is in omega (arith, e)
+
   abbrev pub after : ValueView
   after = values.gave (claimed_as m v) (values.rewound v)
 
@@ -79,6 +107,7 @@ module _ (v : ValueView) (m : Handle) (b : v.claims.counter ≡ Some 0) (d : IsD
     list = ap (λ c. drop (claiming.counted c) v.claims.list ++ later (claimed_as m v) ∷ []) b;
     out = value_gone;
     once = λ s. removed_less s (m.slot - v.fixed) v.claims.held;
+    left = filter_same (other_owned (v.fixed + (m.slot - v.fixed))) (is_other (m ∷ [])) v.mine (λ x i. ap (λ k. not (x.of.slot == k)) slot_back ∙ alone_test m x.of.slot);
     stays = λ x i n. filter_member (other_owned (v.fixed + (m.slot - v.fixed))) x v.mine i (is_unlike x.of.slot (v.fixed + (m.slot - v.fixed)) (λ q. n m (inl refl) (let e = slot_is in omega (arith, e, q))));
     mine = λ x i. let q = member_filter (other_owned (v.fixed + (m.slot - v.fixed))) x v.mine i in (q.0, one_outside m x.of.slot (λ e. differs x.of.slot (v.fixed + (m.slot - v.fixed)) q.1 (let k = slot_is in omega (arith, k, e))));
     known = refl;
@@ -95,6 +124,7 @@ values_then a b v u w p q = record {
   list = q.list ∙ ap (λ l. l ++ map (λ m. later (claimed_as m u)) b) p.list ∙ ap (λ f. (v.claims.list ++ map (λ m. later (claimed_as m v)) a) ++ map (λ (m : Handle). later (record { slot = m.slot - f; generation = m.generation })) b) p.fixed ∙ append_assoc v.claims.list (map (λ m. later (claimed_as m v)) a) (map (λ m. later (claimed_as m v)) b) ∙ ap (λ l. v.claims.list ++ l) (sym (map_both (λ m. later (claimed_as m v)) a b));
   out = λ g. let x = p.out g in let y = q.out g in let s = sum_by-append g a b in omega (arith, x, y, s);
   once = λ s. let x = p.once s in let y = q.once s in omega (arith, x, y);
+  left = q.left ∙ ap (filter (is_other b)) p.left ∙ filter_twice (is_other b) (is_other a) (is_other (a ++ b)) v.mine (λ x. both_test a b x.of.slot);
   stays = λ x i n. q.stays x (p.stays x i (outside_left a b x.of.slot n)) (outside_right a b x.of.slot n);
   mine = λ x i. let y = q.mine x i in let z = p.mine x y.0 in (z.0, outside_both a b x.of.slot z.1 y.1);
   known = q.known ∙ p.known;

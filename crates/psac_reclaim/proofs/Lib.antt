@@ -1,4 +1,5 @@
 pub mod Lists
+pub mod Sizes
 pub mod Giving
 pub mod Cleaning
 pub mod Taking
@@ -6,3 +7,4 @@ pub mod Parted
 pub mod Steps
 pub mod Ahead
 pub mod Ending
+pub mod Owing

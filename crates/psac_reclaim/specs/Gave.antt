@@ -1,5 +1,5 @@
 -- What becomes of a sole pass where slots are given back one after another.
-use Rattle.std.specs.Prelude.{◌≡◌, ◌≢◌, ◌⊎◌, ℕ, ◌+◌, ◌<◌, ◌≤◌, List, ◌++◌, map, Some, sum_by}
+use Rattle.std.specs.Prelude.{◌≡◌, ◌≢◌, ◌⊎◌, ℕ, ◌+◌, ◌<◌, ◌≤◌, List, ◌++◌, map, filter, Bool, Some, sum_by}
 use Rattle.psac_ops.specs.declared.plain.Handle.{Handle}
 use Rattle.psac_slots.specs.Handles.{Member, later, slot_times}
 use Rattle.psac_values.specs.declared.view.OwnedView.{OwnedView}
@@ -16,11 +16,15 @@ use Rattle.psac_readers.specs.declared.view.ReadersView.{ReadersView}
 use Rattle.psac_readers.specs.Chained.{named, mods_of}
 use Rattle.psac_record.specs.declared.parts.Seen.{Seen}
 use Rattle.psac_record.specs.Kept.{Stands}
-use Rattle.psac_reclaim.specs.Parts.{Outside}
+use Rattle.psac_reclaim.specs.Parts.{Outside, is_outside}
 
 -- the made modifiables that are out
 abbrev pub out_of : ValueView → List Handle
 out_of v = map (made_handle v.fixed) v.claims.held
+
+-- what the pass has of a slot of none of these
+abbrev pub is_other : List Handle → OwnedView → Bool
+is_other gone x = is_outside gone x.of.slot
 
 -- these modifiables were given back
 pub record ValuesGave (gone : List Handle) (v w : ValueView) : Type 0 where
@@ -29,7 +33,8 @@ pub record ValuesGave (gone : List Handle) (v w : ValueView) : Type 0 where
   -- they are out no more, and all others are still
   pub out : (g : Handle → ℕ) → sum_by g (out_of w) + sum_by g gone ≡ sum_by g (out_of v)
   pub once : (s : ℕ) → slot_times s w.claims.held ≤ slot_times s v.claims.held
-  -- what the pass has of the others, with their words, stays
+  -- what the pass has of the others, with their words, stays, and nothing else does
+  pub left : w.mine ≡ filter (is_other gone) v.mine
   pub stays : (x : OwnedView) → Member x v.mine → Outside gone x.of.slot → Member x w.mine
   pub mine : (x : OwnedView) → Member x w.mine → Member x v.mine × Outside gone x.of.slot
   pub known : w.known ≡ v.known

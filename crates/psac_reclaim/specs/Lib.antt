@@ -2,3 +2,4 @@ pub mod Parts
 pub mod Gave
 pub mod Owed
 pub mod Going
+pub mod Repaired

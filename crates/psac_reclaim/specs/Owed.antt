@@ -1,5 +1,5 @@
 -- What has to hold of a sole pass where a record keeps some slots and links and others go back, and what is left.
-use Rattle.std.specs.Prelude.{◌≡◌, ◌⊎◌, ℕ, ◌+◌, ◌<◌, List, [], ◌++◌, map, filter, Some, sum_by}
+use Rattle.std.specs.Prelude.{◌≡◌, ◌⊎◌, ℕ, ◌+◌, ◌<◌, ◌≤◌, List, [], ◌++◌, map, filter, length, Some, sum_by}
 use Rattle.psac_ops.specs.declared.plain.Handle.{Handle}
 use Rattle.psac_slots.specs.Handles.{Member, word_of, later}
 use Rattle.psac_slots.specs.Claiming as claiming
@@ -9,16 +9,17 @@ use Rattle.psac_values.specs.declared.view.ValueView.{ValueView}
 use Rattle.psac_values.specs.Knowing.{Has, Knows, claimed_as}
 use Rattle.psac_marks.specs.declared.view.OwnView.{OwnView}
 use Rattle.psac_marks.specs.declared.view.MarksView.{MarksView}
-use Rattle.psac_marks.specs.Passes.{IsDropped, IsBusy}
+use Rattle.psac_marks.specs.Passes.{Owns, IsDropped, IsBusy}
 use Rattle.psac_readers.specs.declared.view.Stage.{Stage}
 use Rattle.psac_readers.specs.declared.view.Stage.TheVariants.{In, Dead}
 use Rattle.psac_readers.specs.declared.view.LinkView.{LinkView}
 use Rattle.psac_readers.specs.declared.view.ReadersView.{ReadersView}
-use Rattle.psac_readers.specs.Chained.{mods_of}
+use Rattle.psac_readers.specs.Chained.{named, mods_of}
+use Rattle.psac_readers.specs.Steps.{Holds}
 use Rattle.psac_fork.specs.declared.tables.Pass.{Pass}
 use Rattle.psac_record.specs.Kept.{Stands}
 use Rattle.psac_reclaim.specs.Parts.{Outside}
-use Rattle.psac_reclaim.specs.Gave.{out_of}
+use Rattle.psac_reclaim.specs.Gave.{out_of, is_other}
 
 -- the pass knows the counter of each table, so no other pass is left
 abbrev pub AreSole : Pass → Type 0
@@ -65,7 +66,10 @@ pub record ValuesLeft (kept gone : List Handle) (v w : ValueView) : Type 0 where
   pub out : (g : Handle → ℕ) → sum_by g (out_of w) ≡ sum_by g kept
   pub whole : claiming.Accounted w.claims
   pub list : w.claims.list ≡ (claiming.rewound v.claims).list ++ map (λ m. later (claimed_as m v)) gone
-  -- what the pass had and knew of others it has and knows
+  pub few : length w.claims.held ≡ length kept
+  pub count : w.claims.count ≡ v.claims.count
+  -- what the pass had and knew of others it has and knows, with their words, and it has nothing else
+  pub mine : w.mine ≡ filter (is_other gone) v.mine
   pub has : (m : Handle) → Has v m → Outside gone m.slot → Has w m
   pub knows : (m : Handle) (ws : List ℕ) → Knows v m ws → Outside gone m.slot → Knows w m ws
   pub known : w.known ≡ v.known
@@ -77,7 +81,12 @@ pub record ValuesLeft (kept gone : List Handle) (v w : ValueView) : Type 0 where
 -- each set has the links that are kept, all live, and no others
 pub record ReadersLeft (kept : List Stands) (v w : ReadersView) : Type 0 where
   pub links : (g : LinkView → ℕ) → sum_by g w.links ≡ sum_by g (map (entered In) kept)
+  pub once : (l : ℕ) → sum_by (named l) w.links ≤ 1
   pub whole : claiming.Accounted w.claims
+  -- each is out, and nothing else is
+  pub holds : Holds w
+  pub few : length w.claims.held ≡ length kept
+  pub count : w.claims.count ≡ v.claims.count
   pub sets : mods_of w.walk ≡ mods_of v.walk
   pub mods : w.mods ≡ v.mods
   pub shared : w.shared ≡ v.shared
@@ -89,10 +98,16 @@ pub record MarksLeft (kept gone : List Handle) (v w : MarksView) : Type 0 where
   pub out : (g : Handle → ℕ) → sum_by g w.claims.held ≡ sum_by g kept
   pub whole : claiming.Accounted w.claims
   pub list : w.claims.list ≡ (claiming.rewound v.claims).list ++ map later gone
+  pub few : length w.claims.held ≡ length kept
+  pub count : w.claims.count ≡ v.claims.count
   pub unmarked : (x : ℕ) → IsBusy w x → ⊥
   pub undropped : (x : ℕ) → IsDropped w x → ⊥
+  pub none : (w.marked ≡ []) × (w.busy ≡ []) × (w.dropped ≡ [])
   pub own : (o : OwnView) → Member o v.own → Outside gone o.node.slot → Member o w.own
   pub own_only : (o : OwnView) → Member o w.own → Member o v.own × Outside gone o.node.slot
+  -- the pass has what is kept, and nothing else
+  pub owned : (n : Handle) → Member n kept → Owns w n
+  pub alone : (o : OwnView) → Member o w.own → Member o.node kept
   pub shared : w.shared ≡ v.shared
   pub begun : (w.claims.counter ≡ Some 0) × (w.claims.drawn ≡ []) × (w.claims.over ≡ 0)
   pub asks : w.asks ≡ v.asks

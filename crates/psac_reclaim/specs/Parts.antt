@@ -1,7 +1,7 @@
 -- What subtrees have: the modifiables that they made, their nodes, and the links of their reads.
-use Rattle.std.specs.Prelude.{◌≢◌, List, [], ◌∷◌, ◌++◌, map, ℕ}
+use Rattle.std.specs.Prelude.{◌≢◌, List, [], ◌∷◌, ◌++◌, map, ℕ, Bool, ◌==◌}
 use Rattle.psac_ops.specs.declared.plain.Handle.{Handle}
-use Rattle.psac_slots.specs.Handles.{Member}
+use Rattle.psac_slots.specs.Handles.{Member, slot_times}
 use Rattle.psac_record.specs.Kept.{Kept, E, A, W, S, P, R, Stands, stands}
 
 -- the nodes in tree order
@@ -36,3 +36,7 @@ in_all f (k ∷ more) = f k ++ in_all f more
 -- none of the handles is of the slot
 abbrev pub Outside : List Handle → ℕ → Type 0
 Outside hs s = (h : Handle) → Member h hs → h.slot ≢ s
+
+-- and as a test
+abbrev pub is_outside : List Handle → ℕ → Bool
+is_outside hs s = slot_times s hs == 0

@@ -14,8 +14,9 @@ use psac_fork::{Pass, Tables};
 use psac_record::{Dropped, Record};
 
 /// Gives back what the dropped subtrees have: their modifiables, their nodes and the links of their reads. What is out
-/// afterwards is the record's, no set of another slot has a link, and no node is marked. What went back has the next
-/// generation, and nothing else has. The pass knows what it knew of what is left. It takes no memory.
+/// afterwards is the record's, and nothing else; no set of another slot has a link, and no node is marked. What went back
+/// has the next generation, and nothing else has. The pass has and knows what it had and knew of what is left, and nothing
+/// of what went back. It takes no memory.
 pub fn reclaim(_tree: &Record, dropped: Dropped, tables: &Tables, pass: Pass) -> Pass
     requires of { IsOf pass tables.now }
     requires sole { AreSole pass }

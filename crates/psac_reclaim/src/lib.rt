@@ -2,6 +2,7 @@
 #![tactic(auto)]
 
 mod give;
+pub mod laws;
 mod part;
 mod parts;
 

@@ -3,6 +3,8 @@ use Rattle.psac_slots.specs.Claiming as claiming
 use Rattle.psac_values.specs.declared.view.ValueView.{ValueView}
 use Rattle.psac_marks.specs.declared.view.MarksView.{MarksView}
 use Rattle.psac_readers.specs.declared.view.ReadersView.{ReadersView}
+use Rattle.psac_readers.specs.Steps as readers
+use Rattle.psac_marks.specs.Steps as marks
 use Rattle.psac_record.specs.Dropped.{dropped_of}
 use Rattle.psac_record.specs.Kept.{made_of, links_of}
 use Rattle.psac_record.specs.Shown.{kept_of}
@@ -41,7 +43,8 @@ left_links c =
     let e = c.rewind-5.ensures.rewound in
     let d = subst (λ (x : ReadersView). SameSets x u) c.rewind-2.ensures.rewound c.give_parts.ensures.readers in
     let a = subst (λ (x : ReadersView). claiming.Accounted x.claims) e c.rewind-5.ensures.whole in
-    subst (λ (w : ReadersView). ReadersLeft kept v w) (sym e) (readers_left kept v u d c.give_parts.ensures.readers_left a)
+    let h = subst (λ (x : ReadersView). readers.Holds x) e c.rewind-5.ensures.holds in
+    subst (λ (w : ReadersView). ReadersLeft kept v w) (sym e) (readers_left kept v u d c.give_parts.ensures.readers_left h a)
 
 pub returns-clause-values : goal.returns-clause-values
 returns-clause-values c = left_values c
@@ -58,7 +61,8 @@ returns-clause-marks c =
     let e = c.rewind-6.ensures.rewound in
     let d = subst (λ (x : MarksView). MarksGave gone x u) c.rewind-3.ensures.rewound c.give_parts.ensures.marks in
     let a = subst (λ (x : MarksView). claiming.Accounted x.claims) e c.rewind-6.ensures.whole in
-    subst (λ (w : MarksView). MarksLeft kept gone v w) (sym e) (marks_end kept gone v u d c.give_parts.ensures.marks_left a)
+    let h = subst (λ (x : MarksView). marks.Holds x) e c.rewind-6.ensures.holds in
+    subst (λ (w : MarksView). MarksLeft kept gone v w) (sym e) (marks_end kept gone v u d c.give_parts.ensures.marks_left h a)
 
 pub returns-clause-unnamed : goal.returns-clause-unnamed
 returns-clause-unnamed c = stand_left (made_of (kept_of c.args._tree.now)) (in_all made_of (dropped_of c.args.dropped)) (links_of (kept_of c.args._tree.now)) c.args.pass.values.knows c.rewind-4.new.pass.knows c.args.pass.readers.knows c.rewind-5.new.pass.knows (left_values c) (left_links c) c.requires.names

@@ -6,7 +6,9 @@ use Rattle.psac_record.specs.declared.parts.Seen.{Seen}
 use Rattle.psac_record.specs.Kept.{stands}
 use Rattle.psac_record.specs.Opened.{part_of}
 use Rattle.psac_reclaim.specs.Parts.{made_here, node_here, links_here}
-use Rattle.psac_reclaim.specs.Gave.{Cleaned, slots_of, sets_of}
+use Rattle.psac_values.specs.declared.view.ValueView.{ValueView}
+use Rattle.psac_reclaim.specs.Gave.{ValuesGave, Cleaned, slots_of, sets_of}
+use Rattle.psac_reclaim.proofs.Giving.{values_none}
 use Rattle.psac_reclaim.proofs.Taking.{sets_are}
 use Rattle.psac_reclaim.proofs.part.give_part.Goals as goal
 
@@ -36,3 +38,23 @@ pub returns-in-Block-clause-readers : goal.returns-in-Block-clause-readers
 returns-in-Block-clause-readers c =
     let e : c.as_slice.result.now ≡ c.in-Block.place.value.reading.reads = c.as_slice.ensures ∙ ap (λ x. x.reading.reads) c.deref-in-Block-2.ensures in
     subst (λ (z : List ℕ). Cleaned z c.args.readers.now.knows c.sweep_all.new.pass.knows) (ap slots_of e ∙ sym (sets_are c.in-Block.place.value.reading.node c.in-Block.place.value.reading.reads) ∙ sym (ap (λ (p : Part). sets_of (links_here (part_of p))) c.in-Block.is)) c.sweep_all.ensures.cleaned
+
+-- in all other cases no modifiable goes back
+none_here : (part other : Part) (v : ValueView) → part ≡ other → ValuesGave (made_here (part_of other)) v v
+    → ValuesGave (made_here (part_of part)) v v
+none_here part other v e g = subst (λ (p : Part). ValuesGave (made_here (part_of p)) v v) (sym e) g
+
+pub returns-in-End-clause-values : goal.returns-in-End-clause-values
+returns-in-End-clause-values c = none_here c.args.part.now _ c.args.values.now.knows c.in-End.is (values_none c.args.values.now.knows c.requires.begun.0)
+
+pub returns-in-Wrote-clause-values : goal.returns-in-Wrote-clause-values
+returns-in-Wrote-clause-values c = none_here c.args.part.now _ c.args.values.now.knows c.in-Wrote.is (values_none c.args.values.now.knows c.requires.begun.0)
+
+pub returns-in-Step-clause-values : goal.returns-in-Step-clause-values
+returns-in-Step-clause-values c = none_here c.args.part.now _ c.args.values.now.knows c.in-Step.is (values_none c.args.values.now.knows c.requires.begun.0)
+
+pub returns-in-Both-clause-values : goal.returns-in-Both-clause-values
+returns-in-Both-clause-values c = none_here c.args.part.now _ c.args.values.now.knows c.in-Both.is (values_none c.args.values.now.knows c.requires.begun.0)
+
+pub returns-in-Block-clause-values : goal.returns-in-Block-clause-values
+returns-in-Block-clause-values c = none_here c.args.part.now _ c.args.values.now.knows c.in-Block.is (values_none c.args.values.now.knows c.requires.begun.0)
