@@ -26,8 +26,7 @@ use Rattle.psac_trace.specs.Rights.{Ready}
 use Rattle.psac_trace.specs.Running.{Begins}
 use Rattle.psac_trace.proofs.Warning.{warns_of_none}
 use Rattle.psac_stage.specs.Places.{fixed_slots, base_heap}
-use Rattle.psac_stage.specs.Holding.{HasFixed, IsBare}
-use Rattle.psac_stage.specs.Resting.{HasSets, HasAll, IsRested, IsCleared}
+use Rattle.psac_stage.specs.Resting.{HasAll, IsRested, IsCleared}
 use Rattle.psac_stage.proofs.Members.{counted_in, in_counted}
 use Rattle.psac_stage.proofs.Readies.{first_ready, first_tidy}
 

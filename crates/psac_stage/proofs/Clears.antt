@@ -1,5 +1,5 @@
 -- What giving everything back leaves of a pass.
-use Rattle.std.proofs.Common.{◌≡◌, ℕ, suc, zero, pos, ◌+◌, ◌*◌, ◌<◌, ◌==◌, true, if◌then◌else◌, cond, List, [], ◌∷◌, ◌++◌, map, drop, Some, refl, ap, sym, ◌∙◌, subst, inl, inr, arith}
+use Rattle.std.proofs.Common.{◌≡◌, ℕ, suc, zero, pos, ◌+◌, ◌*◌, ◌<◌, ◌==◌, Bool, true, if◌then◌else◌, cond, List, [], ◌∷◌, ◌++◌, map, drop, Some, refl, ap, sym, ◌∙◌, subst, inl, inr, arith}
 use Rattle.std.specs.Prelude.{filter, option_and_then}
 use Rattle.std.proofs.lemmas.List.Sums.{sum_by-cons}
 use Rattle.std.proofs.lemmas.Bool.{lt-ltb, ltb-true}
@@ -57,35 +57,42 @@ young_given age c d y none is =
 fixed_slot : (n : ℕ) (o : OwnedView) → o.of.slot < n → is_fixed n o ≡ true
 fixed_slot n o h = lt-ltb o.of.slot n h
 
-words_fixed : (s n : ℕ) (mine : List OwnedView) → s < n → words_in s (filter (is_fixed n) mine) ≡ words_in s mine
-words_fixed s n [] low = refl
-words_fixed s n (o ∷ mine) low =
-    elim (test_or (is_fixed n o)) [
-      | inl t ↦ rw t (ap (λ z. if o.of.slot == s then Some o.words else z) (words_fixed s n mine low))
+-- what is told of a slot stays where its entries do
+pub words_filter : (f : OwnedView → Bool) (s : ℕ) (mine : List OwnedView) → ((o : OwnedView) → o.of.slot ≡ s → f o ≡ true) → words_in s (filter f mine) ≡ words_in s mine
+words_filter f s [] keep = refl
+words_filter f s (o ∷ mine) keep =
+    elim (test_or (f o)) [
+      | inl t ↦ rw t (ap (λ z. if o.of.slot == s then Some o.words else z) (words_filter f s mine keep))
       | inr t ↦
           elim (test_or (o.of.slot == s)) [
-            | inl q ↦ absurd (let e = nat_is o.of.slot s q in not_both (fixed_slot n o (omega (arith, e, low))) t)
-            | inr q ↦ rw (t, q) (words_fixed s n mine low)
+            | inl q ↦ absurd (not_both (keep o (nat_is o.of.slot s q)) t)
+            | inr q ↦ rw (t, q) (words_filter f s mine keep)
           ]
     ]
+
+words_fixed : (s n : ℕ) (mine : List OwnedView) → s < n → words_in s (filter (is_fixed n) mine) ≡ words_in s mine
+words_fixed s n mine low = words_filter (is_fixed n) s mine (λ o e. fixed_slot n o (omega (arith, e, low)))
 
 value_fixed : (s n : ℕ) (mine : List OwnedView) → s < n → value_in s (filter (is_fixed n) mine) ≡ value_in s mine
 value_fixed s n mine low = ap (λ z. option_and_then of_words (option_and_then all_known z)) (words_fixed s n mine low)
 
-entries_fixed : (s n : ℕ) (mine : List OwnedView) → s < n → entries s (filter (is_fixed n) mine) ≡ entries s mine
-entries_fixed s n [] low = refl
-entries_fixed s n (o ∷ mine) low =
-    let f : OwnedView → ℕ = λ (w : OwnedView). cond (w.of.slot == s) 1 0 in
-    let c = sum_by-cons f o mine in
-    let r = entries_fixed s n mine low in
-    elim (test_or (is_fixed n o)) [
-      | inl t ↦ rw t (let d = sum_by-cons f o (filter (is_fixed n) mine) in omega (arith, c, d, r))
+pub entries_filter : (f : OwnedView → Bool) (s : ℕ) (mine : List OwnedView) → ((o : OwnedView) → o.of.slot ≡ s → f o ≡ true) → entries s (filter f mine) ≡ entries s mine
+entries_filter f s [] keep = refl
+entries_filter f s (o ∷ mine) keep =
+    let one : OwnedView → ℕ = λ (w : OwnedView). cond (w.of.slot == s) 1 0 in
+    let c = sum_by-cons one o mine in
+    let r = entries_filter f s mine keep in
+    elim (test_or (f o)) [
+      | inl t ↦ rw t (let d = sum_by-cons one o (filter f mine) in omega (arith, c, d, r))
       | inr t ↦
           elim (test_or (o.of.slot == s)) [
-            | inl q ↦ absurd (let e = nat_is o.of.slot s q in not_both (fixed_slot n o (omega (arith, e, low))) t)
-            | inr q ↦ rw t (let z : f o ≡ 0 = ap (λ b. cond b 1 0) q in omega (arith, c, z, r))
+            | inl q ↦ absurd (not_both (keep o (nat_is o.of.slot s q)) t)
+            | inr q ↦ rw t (let z : one o ≡ 0 = ap (λ b. cond b 1 0) q in omega (arith, c, z, r))
           ]
     ]
+
+entries_fixed : (s n : ℕ) (mine : List OwnedView) → s < n → entries s (filter (is_fixed n) mine) ≡ entries s mine
+entries_fixed s n mine low = entries_filter (is_fixed n) s mine (λ o e. fixed_slot n o (omega (arith, e, low)))
 
 module _ (g : Grid) (outs : ℕ) (caps : Caps) (age : ℕ) (p q : Pass) (all : HasAll g outs caps age p) (values : ValuesNone p.values.knows q.values.knows) (readers : ReadersNone p.readers.knows q.readers.knows) (marks : MarksNone p.marks.knows q.marks.knows) where
   abbrev fixed : ℕ

@@ -11,3 +11,7 @@ room_kept (e ∷ es) g = room_kept es (with_cell e.row e.col e.value g)
 pub cols_kept : (edits : List Edit) (g : Grid) → (with_edits edits g).cols ≡ g.cols
 cols_kept [] g = refl
 cols_kept (e ∷ es) g = cols_kept es (with_cell e.row e.col e.value g)
+
+pub opened_kept : (edits : List Edit) (g : Grid) → (with_edits edits g).opened ≡ g.opened
+opened_kept [] g = refl
+opened_kept (e ∷ es) g = opened_kept es (with_cell e.row e.col e.value g)

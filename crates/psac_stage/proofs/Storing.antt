@@ -42,11 +42,11 @@ unfolding of_entry
 entries_slots s mine = sum_map of_entry (λ (h : Handle). cond (h.slot == s) 1 0) mine
 
 module _ (v u : ValueView) (same : SameSlots v u) where
-  entries_same : (s : ℕ) → entries s u.mine ≡ entries s v.mine
+  pub entries_same : (s : ℕ) → entries s u.mine ≡ entries s v.mine
   entries_same s = sym (entries_slots s u.mine) ∙ ap (slot_times s) same.slots ∙ entries_slots s v.mine
 
   -- each entry has one of the same modifiable before
-  member_before : (o : OwnedView) → Member o u.mine → (b : OwnedView) × Member b v.mine × (b.of ≡ o.of)
+  pub member_before : (o : OwnedView) → Member o u.mine → (b : OwnedView) × Member b v.mine × (b.of ≡ o.of)
   member_before o i = member_map (λ (w : OwnedView). w.of) o.of v.mine (subst (Member o.of) same.slots (map_member (λ (w : OwnedView). w.of) o u.mine i))
 
   pub fixed_same : (n : ℕ) → HasFixed n v → HasFixed n u

@@ -3,3 +3,7 @@ pub mod Holding
 pub mod Resting
 pub mod Settling
 pub mod Storing
+pub mod Recorded
+pub mod Reclaiming
+pub mod Staging
+pub mod Leaving

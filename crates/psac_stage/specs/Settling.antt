@@ -5,6 +5,7 @@ use Rattle.psac_values.specs.Steps as values
 use Rattle.psac_readers.specs.Steps as readers
 use Rattle.psac_readers.specs.Steps.{Holds}
 use Rattle.psac_marks.specs.Steps as marks
+use Rattle.psac_marks.specs.Steps.{Holds as HoldsNodes, IsClosed}
 use Rattle.psac_fork.specs.declared.tables.Pass.{Pass}
 
 -- the indexes below these numbers were drawn, and no others
@@ -22,3 +23,5 @@ pub record Settles (p q : Pass) : Type 0 where
   pub drew_nodes : DrewBelow nodes p.marks.knows.claims
   pub marks : q.marks.knows ≡ marks.rewound (marks.regained nodes p.marks.knows)
   pub whole_nodes : Accounted q.marks.knows.claims
+  pub holds_nodes : HoldsNodes q.marks.knows
+  pub closed : IsClosed q.marks.knows

@@ -1,11 +1,10 @@
 //! A pass after a run, and before the next one.
-ghost use Rattle.std.specs.Prelude.{◌≡◌, ℕ, ◌+◌, ◌<◌, false, is_some};
+ghost use Rattle.std.specs.Prelude.{◌≡◌, ℕ, ◌+◌, ◌<◌};
 ghost use Rattle.psac_fork.specs.Whole.{IsOf};
 ghost use Rattle.psac_inputs.specs.Grid.{Grid, IsGrid};
 ghost use Rattle.psac_model.specs.declared.ends.Caps.{Caps};
 ghost use Rattle.psac_stage.specs.Places.{fixed_slots};
 ghost use Rattle.psac_stage.specs.Resting.{HasAll, IsRested, IsCleared};
-ghost use Rattle.psac_stage.specs.Resting.{MayRun};
 ghost use Rattle.psac_stage.specs.Settling.{Settles};
 
 use psac_fork::{Pass, Tables};
@@ -47,18 +46,4 @@ pub fn cleared(record: Record, tables: &Tables, pass: Pass) -> Pass
     ensures clear { (g : Grid) (outs : ℕ) (caps : Caps) (age : ℕ) → HasAll g outs caps age pass → IsCleared (fixed_slots g outs) result }
 {
     reset(record, Dropped::new(), tables, pass)
-}
-
-/// Gives back what a kept record has, so that a run may begin.
-pub fn emptied(kept: Option<Record>, tables: &Tables, pass: Pass) -> Pass
-    requires of { IsOf pass tables.now }
-    requires all { (g : Grid) × (outs : ℕ) × (caps : Caps) × (age : ℕ) × HasAll g outs caps age pass × (age < 4294967295) }
-    requires rested { IsRested pass }
-    ensures may { (g : Grid) (outs : ℕ) (caps : Caps) (age : ℕ) → IsGrid g → HasAll g outs caps age pass → (is_some kept ≡ false → IsCleared (fixed_slots g outs) pass)
-        → MayRun outs g caps (age + 1) tables.now result }
-{
-    match kept {
-        Some(tree) => cleared(tree, tables, pass),
-        None => pass,
-    }
 }

@@ -14,7 +14,7 @@ use psac_ops::{Handle, Plain, to_words};
 use psac_values::{ValuePass, Values};
 
 /// Gives a fixed slot a value.
-fn put_value(values: &Values, pass: &mut ValuePass, slot: u32, value: Plain)
+pub fn put_value(values: &Values, pass: &mut ValuePass, slot: u32, value: Plain)
     requires table { pass.old.table ≡ values.now }
     requires fixed { (n : ℕ) × HasFixed n pass.old.knows × (slot < n) }
     ensures table { pass.new.table ≡ pass.old.table }
@@ -31,7 +31,7 @@ fn put_value(values: &Values, pass: &mut ValuePass, slot: u32, value: Plain)
 }
 
 /// The present number of rows, as a value.
-fn row_count(grid: &Grid) -> Plain
+pub fn row_count(grid: &Grid) -> Plain
     ensures { result ≡ Int (pos grid.now.rows) }
 {
     Plain::Int(i64::from(grid.rows()))

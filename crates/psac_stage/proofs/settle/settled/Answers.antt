@@ -47,4 +47,6 @@ returns-clause-settles c =
       drew_nodes = m.2;
       marks = c.rewind-3.ensures.rewound ∙ ap marks.rewound m.1;
       whole_nodes = c.rewind-3.ensures.whole;
+      holds_nodes = c.rewind-3.ensures.holds;
+      closed = c.rewind-3.ensures.closed;
     }
