@@ -1,5 +1,5 @@
 -- A run anew, from the call that runs main's body to what is kept.
-use Rattle.std.proofs.Common.{◌≡◌, ℕ, ◌+◌, ◌<◌, ◌^◌, List, [], ◌∷◌, length, Some, false, refl, ap, sym, ◌∙◌, subst}
+use Rattle.std.proofs.Common.{◌≡◌, ℕ, ◌+◌, ◌<◌, ◌^◌, List, [], ◌∷◌, length, Some, None, false, refl, ap, sym, ◌∙◌, subst}
 use Rattle.std.specs.Prelude.{option_map}
 use Rattle.psac_ops.specs.Named.{value_of}
 use Rattle.psac_values.specs.declared.view.ValueView.{ValueView}
@@ -33,7 +33,7 @@ use Rattle.psac_engine.proofs.Outputs.{output_bound, has_outputs}
 use Rattle.psac_engine.specs.Outputs.{HasOutputs}
 use Rattle.psac_model.specs.Series.{has}
 use Rattle.psac_plain.specs.Opened.{at_slot, first_output}
-use Rattle.psac_engine.proofs.Afters.{all_after, alone_now, few}
+use Rattle.psac_stage.proofs.Afters.{all_after, alone_now, few}
 use Rattle.psac_engine.proofs.Shows.{run_is}
 use Rattle.psac_engine.proofs.Uncapped.{uncapped, nodes_small}
 use Rattle.psac_stage.proofs.Settles.{settled_all}
@@ -62,7 +62,7 @@ module _ (w : World) (g : Grid) (ok : IsGrid g) (checked : IsChecked w) (caps : 
       pub now_all : HasAll g outs caps age z
       now_all = settled_all q z s g outs caps age run_all
 
-      pub now_answered : Answers (outcome w caps g) (answer_of e)
+      pub now_answered : Answers caps None (outcome w caps g) (answer_of e)
       now_answered = answered w g ok checked caps age t p may.of may.all may.rested may.clear q z s now_all e l
 
   module _ (q : Pass) (k : Kept) (l : MainLeaves g w.texts w.program.funcs w.main t p q (told.Good k)) (z : Pass) (s : Settles q z) where

@@ -44,11 +44,11 @@ use Rattle.psac_engine.specs.Commit.{Answers}
 use Rattle.psac_stage.specs.Places.{fixed_slots, base_heap}
 use Rattle.psac_stage.specs.Resting.{HasAll, IsRested, IsCleared}
 use Rattle.psac_stage.specs.Settling.{Settles}
-use Rattle.psac_engine.proofs.Apart.{apart_distinct, makes_member}
+use Rattle.psac_stage.proofs.Apart.{apart_distinct, makes_member}
 use Rattle.psac_stage.proofs.Starts.{start, one, start_heaps}
 use Rattle.psac_engine.proofs.Shows.{IsRecord, all_named, shows, size_is, behind_names}
 use Rattle.psac_stage.proofs.Begins.{body_left, ready}
-use Rattle.psac_engine.proofs.Afters.{behind, distinct}
+use Rattle.psac_stage.proofs.Afters.{behind, distinct}
 use Rattle.psac_stage.proofs.Counts.{drawn_long, once_low}
 use Rattle.psac_engine.proofs.Sizes.{nodes_count, mods_count, links_count}
 use Rattle.psac_stage.proofs.Settles.{mods_fit, nodes_fit, links_fit}
@@ -161,18 +161,18 @@ module _ (w : World) (g : Grid) (ok : IsGrid g) (checked : IsChecked w) (caps : 
               let d = l.all.1.1 in
               omega (arith, is, a, b, d, links_count k)
 
-      pub answered : (e : Ended Kept) → IsLeft q e → Answers (outcome w caps g) (answer_of e)
+      pub answered : (e : Ended Kept) → IsLeft q e → Answers caps None (outcome w caps g) (answer_of e)
       answered (Good k) l =
           let run = (told (Good k) l).0.run base (λ m x h. h) in
           let a = serial (Good k) l k Done (ap (λ (m : Made). m.mods) l.all) run in
-          good_answers w caps g (anew_work (counts k)) (over_is (Good k) l k Done l.all run) a.ends (ap anew_work (size_is w g ok (bare k) Done a))
+          good_answers caps None w g (anew_work (counts k)) (over_is (Good k) l k Done l.all run) a.ends (ap anew_work (size_is w g ok (bare k) Done a))
       answered (Fault k i n) l =
           let run = (told (Fault k i n) l).0.run base (λ m x h. h) in
           let a = serial (Fault k i n) l k (Stop i n) (ap (λ (m : Made). m.mods) l.all) run in
-          fault_answers w caps g i n (over_is (Fault k i n) l k (Stop i n) l.all run) a.ends
+          fault_answers caps None w g i n (over_is (Fault k i n) l k (Stop i n) l.all run) a.ends
       answered (Other k (Some c)) l =
           let cut = (told (Other k (Some c)) l).0.run base (λ m x h. h) in
           let a = made_is (Other k (Some c)) l k l.all.0 in
           let bound = fresh_bound w g ok.whole ok.even checked ground handles_told (start g ds ok) (one g ds ok) (begin_settings g ds ok w.texts) (begin_unused g ds ok) env (begin_envs g ds ok) base (start_heaps g ds ok) (bare k) q.values.knows.claims.over a.0 (behind_names w g ok (bare k) a.1) cut in
-          full_answers w caps g c.which (drew_over c.which (drew (bare k) q.values.knows.claims.over) (size_of (fresh w g).tree) caps bound (too_much k c l))
-      answered (Other k None) l = wanting w caps g
+          full_answers caps None w g c.which (drew_over c.which (drew (bare k) q.values.knows.claims.over) (size_of (fresh w g).tree) caps bound (too_much k c l))
+      answered (Other k None) l = wanting caps None (outcome w caps g)

@@ -1,6 +1,4 @@
-pub mod Apart
 pub mod Shows
-pub mod Afters
 pub mod Sizes
 pub mod Outcomes
 pub mod Ends
@@ -13,3 +11,15 @@ pub mod Worlds
 pub mod Engines
 pub mod Opens
 pub mod Showing
+pub mod Updates
+pub mod Kept
+pub mod Scopes
+pub mod Mendings
+pub mod Works
+pub mod Repairs
+pub mod Tellings
+pub mod Fits
+pub mod Stopped
+pub mod Dropping
+pub mod Recordings
+pub mod Dones

@@ -42,6 +42,11 @@ use Rattle.psac_engine.specs.Outputs.{plain_shown, HasOutputs}
 use Rattle.psac_engine.specs.Showing.{shown_at, shown_from, HaveValues, OnlyLooked}
 use Rattle.psac_stage.proofs.Holding.{then_is, known_is, words_member}
 use Rattle.psac_engine.proofs.Uncapped.{uncapped}
+use mathlib.Core.Logic.{∥∥₁_map}
+use Rattle.std.specs.Option.{ForSome}
+use Rattle.psac_record.specs.Kept.{Kept}
+use Rattle.psac_record.specs.Shown.{kept_of}
+use Rattle.psac_stage.specs.Recorded.{HasMade, Recorded}
 
 -- a fixed slot
 
@@ -201,3 +206,18 @@ is_kept kept none some is = some ∙ ap not is
 
 pub rewound_looked : (v u : ValueView) → OnlyLooked v u → IsRewound v.claims → IsRewound u.claims
 rewound_looked v u only h = subst IsRewound (sym (ap (λ (z : ValueView). z.claims) only)) h
+
+-- a record that is kept stands beside a pass that only looked
+pub recorded_looked : (w : World) (g : Grid) (k : Kept) (v u : ValueView) (r : ReadersView) (m : MarksView) → OnlyLooked v u → Recorded w g k v r m → Recorded w g k u r m
+recorded_looked w g k v u r m only h =
+    record {
+      left_it = h.left_it;
+      fresh = h.fresh;
+      values = subst (HasMade k) (sym only)
+          (record { out = h.values.out; once = h.values.once; mine = h.values.mine; made = h.values.made; wrote = h.values.wrote; read = h.values.read });
+      nodes = h.nodes;
+      links = h.links;
+    }
+
+pub stands_looked : (w : World) (g : Grid) (kept : Option Record) (v u : ValueView) (r : ReadersView) (m : MarksView) → OnlyLooked v u → ForSome kept (λ (k : Record). ∥ Recorded w g (kept_of k) v r m ∥₁) → ForSome kept (λ (k : Record). ∥ Recorded w g (kept_of k) u r m ∥₁)
+stands_looked w g kept v u r m only h = λ k is. ∥∥₁_map (h k is) (recorded_looked w g (kept_of k) v u r m only)

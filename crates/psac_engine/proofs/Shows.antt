@@ -46,8 +46,12 @@ module _ (w : World) (g : Grid) (ok : IsGrid g) where
   places_count =
       omega (arith, cells_count g ds ok, length-append (cell_places g.cells) (output_places ds ++ Some (int (pos g.rows)) ∷ []), length-append (output_places ds) (Some (int (pos g.rows)) ∷ []), outs_count g ds ok)
 
+  -- what is an input or an output has no slot behind these
+  pub named_low : (m : Handle) → HasName (start g ds ok) m → fixed_slots g (length ds) ≤ m.slot → ⊥
+  named_low m h far = let below = ((begin_linked g ds ok).within m h.0 h.1).1 in omega (arith, below, far, places_count)
+
   pub behind_names : (r : Rec Handle) → ((m : Handle) → Makes r m → fixed_slots g (length ds) ≤ m.slot) → (m : Handle) → HasName (start g ds ok) m → Makes r m → ⊥
-  behind_names r behind m h k = let below = ((begin_linked g ds ok).within m h.0 h.1).1 in omega (arith, below, behind m k, places_count)
+  behind_names r behind m h k = named_low m h (behind m k)
 
   pub shows : (r : Rec Handle) (end : End) → IsApart r → ((m : Handle) → Makes r m → fixed_slots g (length ds) ≤ m.slot) → IsRecord r end → Serial (all_named r) r (base_heap g ds) end (fresh w g)
   shows r end apart behind t =

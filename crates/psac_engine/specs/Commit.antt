@@ -4,10 +4,11 @@ use Rattle.psac_inputs.specs.Grid.{Grid}
 use Rattle.psac_model.specs.declared.ends.Caps.{Caps}
 use Rattle.psac_model.specs.declared.ends.Work.{Work}
 use Rattle.psac_model.specs.Names.{Name, Heap}
-use Rattle.psac_model.specs.Tree.{size_of}
+use Rattle.psac_model.specs.Tree.{Tree, size_of}
 use Rattle.psac_model.specs.Run.{Ran}
 use Rattle.psac_model.specs.Fresh.{World, Outcome, Full, Fault, Good, fresh}
-use Rattle.psac_model.specs.Work.{anew_work}
+use Rattle.psac_model.specs.Redo.{redo}
+use Rattle.psac_model.specs.Work.{inside, mode_of, work_in, anew_work}
 use Rattle.psac_engine.specs.declared.answer.Answer.{Answer}
 use Rattle.psac_engine.specs.declared.answer.Answer.TheVariants as answer
 
@@ -25,13 +26,19 @@ IsCaps caps = IsCap caps.nodes × IsCap caps.mods × IsCap caps.links
 abbrev pub most_commits : ℕ
 most_commits = 1000000000
 
--- what a commit that runs anew answers to an outcome; want of memory may always be answered
-abbrev pub Answers : Outcome → Result Work Answer → Type 0
-Answers (Good tree heap) (Ok work) = work ≡ anew_work (size_of tree)
-Answers (Fault kind line) (Err (answer.Fault k l)) = (k ≡ kind) × (l ≡ line)
-Answers (Full which) (Err (answer.Full k)) = Contains which k
-Answers o (Err answer.NoMemory) = Unit {0}
-Answers o _ = ⊥
+-- the work of a commit that finds this run kept, and keeps one with this tree
+abbrev pub work_after : Caps → Option (Ran Name Heap) → Tree Name → Work
+work_after caps None new = anew_work (size_of new)
+work_after caps (Some old) new =
+    work_in (mode_of caps (size_of old.tree) (inside (redo old.tree new) new)) (redo old.tree new) old.tree new
+
+-- what a commit that finds this run kept answers to an outcome; want of memory may always be answered
+abbrev pub Answers : Caps → Option (Ran Name Heap) → Outcome → Result Work Answer → Type 0
+Answers caps kept (Good tree heap) (Ok work) = work ≡ work_after caps kept tree
+Answers caps kept (Fault kind line) (Err (answer.Fault k l)) = (k ≡ kind) × (l ≡ line)
+Answers caps kept (Full which) (Err (answer.Full k)) = Contains which k
+Answers caps kept o (Err answer.NoMemory) = Unit {0}
+Answers caps kept o _ = ⊥
 
 -- the run that is kept after an answer
 abbrev pub kept_after : World → Grid → Result Work Answer → Option (Ran Name Heap)

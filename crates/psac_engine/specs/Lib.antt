@@ -6,3 +6,4 @@ pub mod Answering
 pub mod Outputs
 pub mod Showing
 pub mod Engine
+pub mod Mending

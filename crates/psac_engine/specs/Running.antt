@@ -1,5 +1,5 @@
 -- A run anew: what it begins with, and what it leaves.
-use Rattle.std.specs.Prelude.{◌≡◌, ℕ, ◌+◌, length, option_map, Some, Result, Ok, Err}
+use Rattle.std.specs.Prelude.{◌≡◌, ℕ, ◌+◌, length, option_map, Some, None, Result, Ok, Err}
 use Rattle.psac_ops.specs.declared.plain.Handle.{Handle}
 use Rattle.psac_ops.specs.Value.{Value}
 use Rattle.psac_ops.specs.Named.{same_handle, value_of}
@@ -13,11 +13,12 @@ use Rattle.psac_model.specs.declared.ends.Work.{Work}
 use Rattle.psac_model.specs.Fresh.{World, Good, fresh, outcome}
 use Rattle.psac_traced.specs.Rec.{Rec, held_by}
 use Rattle.psac_record.specs.declared.record.Record.{Record}
-use Rattle.psac_record.specs.Shown.{rec_of}
+use Rattle.psac_record.specs.Shown.{kept_of, rec_of}
 use Rattle.psac_engine.specs.declared.answer.Answer.{Answer}
 use Rattle.psac_engine.specs.Commit.{Answers}
 use Rattle.psac_stage.specs.Places.{fixed_slots, heap_of, run_of}
 use Rattle.psac_stage.specs.Holding.{value_in}
+use Rattle.psac_stage.specs.Recorded.{Recorded}
 use Rattle.psac_engine.specs.Outputs.{HasOutputs}
 use Rattle.psac_stage.specs.Resting.{HasAll, IsRested, IsCleared}
 
@@ -33,6 +34,6 @@ pub record Shows (w : World) (g : Grid) (caps : Caps) (r : Rec Handle) : Type 0 
 -- what a run leaves, with the work and the record that are kept, or the answer
 abbrev pub HasRun : World → Grid → Caps → ℕ → Pass → Result (Work × Record) Answer → Type 0
 HasRun w g caps age q (Ok kept) =
-    HasAll g (length w.main.dests) caps age q × Shows w g caps (rec_of kept.1) × HasHeap w g (rec_of kept.1) q.values.knows × HasOutputs w g q.values.knows × Answers (outcome w caps g) (Ok kept.0)
+    HasAll g (length w.main.dests) caps age q × Shows w g caps (rec_of kept.1) × HasHeap w g (rec_of kept.1) q.values.knows × HasOutputs w g q.values.knows × Answers caps None (outcome w caps g) (Ok kept.0) × Recorded w g (kept_of kept.1) q.values.knows q.readers.knows q.marks.knows
 HasRun w g caps age q (Err a) =
-    HasAll g (length w.main.dests) caps (age + 1) q × IsCleared (fixed_slots g (length w.main.dests)) q × Answers (outcome w caps g) (Err a)
+    HasAll g (length w.main.dests) caps (age + 1) q × IsCleared (fixed_slots g (length w.main.dests)) q × Answers caps None (outcome w caps g) (Err a)

@@ -5,16 +5,18 @@ ghost use Rattle.psac_inputs.specs.Batch.{empty_batch, put_all, GoesInto};
 ghost use Rattle.psac_model.specs.declared.ends.End.TheVariants.{Done};
 ghost use Rattle.psac_model.specs.Fresh.{fresh, main_of};
 ghost use Rattle.psac_fork.specs.Whole.{IsOf};
-ghost use Rattle.psac_record.specs.Shown.{rec_of};
+ghost use Rattle.psac_record.specs.Shown.{kept_of, rec_of};
 ghost use Rattle.psac_engine.specs.Commit.{IsCaps};
 ghost use Rattle.psac_stage.specs.Places.{fixed_slots};
+ghost use Rattle.psac_stage.specs.Recorded.{Recorded};
 ghost use Rattle.psac_stage.specs.Resting.{HasAll, IsRested, IsCleared};
 ghost use Rattle.psac_engine.specs.Running.{Shows};
 ghost use Rattle.psac_engine.specs.Outputs.{HasOutputs};
 ghost use Rattle.psac_engine.specs.Sound.{fresh_over, world_with};
 
 use crate::Answer;
-use crate::anew::{outputs_of, run_program};
+use crate::anew::outputs_of;
+use crate::commit::commit_on;
 use crate::show::show_slots;
 use psac_base::NoMemory;
 use psac_check::Checked;
@@ -23,8 +25,7 @@ use psac_inputs::{Batch, Grid};
 use psac_model::{Caps, Shown, Size, Work};
 use psac_ops::TextId;
 use psac_record::Record;
-use psac_stage::settle::emptied;
-use psac_stage::store::{put_grid, staged};
+use psac_stage::store::put_grid;
 use psac_syntax::Program;
 use std::alloc::Global;
 use std::thread::Threads;
@@ -54,11 +55,12 @@ pub struct Engine {
     ghost outputs: { ForSome pass (λ p. is_some kept ≡ true → HasOutputs (world_with program consts.items) grid p.values.knows) },
     ghost small: { is_some kept ≡ true → fresh_over (world_with program consts.items) grid caps ≡ [] },
     ghost done: { is_some kept ≡ true → (fresh (world_with program consts.items) grid).end ≡ Done },
+    ghost stands: { ForSome pass (λ p. ForSome kept (λ r. ∥ Recorded (world_with program consts.items) grid (kept_of r) p.values.knows p.readers.knows p.marks.knows ∥₁)) },
     ghost shows: { ForSome kept (λ r. ∥ Shows (world_with program consts.items) grid caps (rec_of r) ∥₁) },
 }
 
 impl Engine {
-    ghost use Rattle.std.specs.Prelude.{◌+◌, ◌<◌, IfOk, Some};
+    ghost use Rattle.std.specs.Prelude.{◌+◌, ◌<◌, IfOk, IfSome, Some};
     ghost use Rattle.psac_model.specs.Tree.{size_of};
     ghost use Rattle.psac_model.specs.Fresh.{outcome, world_of};
     ghost use Rattle.psac_model.specs.Outputs.{outputs_from};
@@ -96,10 +98,9 @@ impl Engine {
         })
     }
 
-    /// Puts the batch into the grid, empties it, and runs the program anew over the grid. The grid has the batch
-    /// whatever is answered. With an error no run is kept.
-    ///
-    /// Each commit runs anew, also where a run is kept and where nothing differs.
+    /// Puts the batch into the grid, and empties it; the grid has the batch whatever is answered. Where a run is kept its record is
+    /// repaired: the outermost read blocks that read other values than are there now run again, and all else of the record is kept.
+    /// Where none is kept, or a table fills up meanwhile, the program runs anew over the grid. With an error no run is kept.
     pub fn commit<Rt: Threads + Sync, G: Gate + Sync>(
         &mut self,
         rt: &Rt,
@@ -110,7 +111,7 @@ impl Engine {
         requires goes { GoesInto batch.old (grid_in self.old) }
         requires few { commits_in self.old < most_commits }
         ensures grid { grid_in self.new ≡ put_all batch.old (grid_in self.old) }
-        ensures answer { Answers (outcome (world_in self.old) (caps_in self.old) (grid_in self.new)) result }
+        ensures answer { Answers (caps_in self.old) (kept_in self.old) (outcome (world_in self.old) (caps_in self.old) (grid_in self.new)) result }
         ensures kept { kept_in self.new ≡ kept_after (world_in self.old) (grid_in self.new) result }
         ensures commits { commits_in self.new ≡ commits_in self.old + 1 }
         ensures world { world_in self.new ≡ world_in self.old }
@@ -118,15 +119,10 @@ impl Engine {
         ensures batch { batch.new ≡ empty_batch (grid_in self.new) }
         ensures goes { GoesInto batch.new (grid_in self.new) }
     {
-        // From it the check learns what holds of the grid.
-        self.grid.rows();
-        let outs = outputs_of(&self.program);
         let Some(pass) = self.pass.take() else {
             unreachable!()
         };
-        let pass = emptied(self.kept.take(), &self.tables, pass);
-        let pass = staged(&self.tables, pass, &mut self.grid, batch, outs);
-        let (told, pass) = run_program(
+        let (told, pass) = commit_on(
             rt,
             self.alloc,
             crew,
@@ -134,7 +130,9 @@ impl Engine {
             &self.tables,
             &self.program,
             &self.consts,
-            &self.grid,
+            &mut self.grid,
+            batch,
+            self.kept.take(),
             pass,
         );
         self.commits += 1;
@@ -200,6 +198,17 @@ impl Engine {
         match told {
             Ok(values) => Ok(Some(values)),
             Err(NoMemory) => Err(NoMemory),
+        }
+    }
+
+    /// The record that is kept, which shows the fresh run of the present grid; `None` exactly where none is.
+    pub fn record(&self) -> Option<&Record>
+        ensures some { is_some result ≡ is_some (kept_in self.now) }
+        ensures shows { IfSome result (λ r. ∥ Shows (world_in self.now) (grid_in self.now) (caps_in self.now) (rec_of r.now) ∥₁) }
+    {
+        match &self.kept {
+            Some(record) => Some(record),
+            None => None,
         }
     }
 

@@ -1,9 +1,11 @@
-//! The engine over the shared tables: each commit runs the program from scratch by the tracing run, and keeps the record.
+//! The engine over the shared tables: a commit repairs the record that is kept, or runs the program from the start, and keeps the record.
 #![tactic(auto)]
 
 mod anew;
 mod answer;
+mod commit;
 mod engine;
+mod repaired;
 mod show;
 mod trace;
 

@@ -39,7 +39,7 @@ fn places(alloc: Global, first: u32, dests: &[u16]) -> Result<Vec<Binding>, Allo
 }
 
 /// What expressions read of a grid, behind whose cells there are so many outputs.
-fn ground(grid: &Grid, outs: u32) -> Ground
+pub fn ground(grid: &Grid, outs: u32) -> Ground
     requires { first_output grid.now + outs < 4294967296 }
     ensures { (texts : List TextId) → setting_on result texts ≡ setting_over grid.now texts outs }
 {

@@ -1,4 +1,4 @@
-use Rattle.std.proofs.Common.{◌<◌, ap, sym, ◌∙◌, subst, length, Ok, Err}
+use Rattle.std.proofs.Common.{◌<◌, ap, sym, ◌∙◌, subst, length, Ok, Err, None}
 use Rattle.psac_model.specs.Fresh.{World, nodes_of, outcome}
 use Rattle.psac_model.specs.Work.{anew_work}
 use Rattle.psac_record.specs.Shown.{kept_of}
@@ -7,6 +7,8 @@ use Rattle.psac_engine.specs.Commit.{Answers}
 use Rattle.psac_engine.proofs.Anews.{main_begins, joined, now_all, now_answered, now_shows, now_heap, now_outputs, whole_size}
 use Rattle.psac_engine.proofs.Calls.{begins_call, leaves_call, leaves_ok, leaves_err, answer_halted}
 use Rattle.psac_stage.proofs.Settles.{settled_rested}
+use Rattle.psac_engine.proofs.Kept.{few_nodes}
+use Rattle.psac_stage.proofs.First.{first_recorded}
 use Rattle.psac_engine.proofs.anew.run_anew.Goals as goal
 
 pub run_main-told-requires-clause-begins : goal.run_main-told-requires-clause-begins
@@ -68,8 +70,9 @@ returns-in-Ok-clause-run g c caps age may =
       now_shows w c.args.grid.now ok c.requires.checked caps age c.args.tables.now c.args.pass may q r l z s,
       now_heap w c.args.grid.now ok c.requires.checked caps age c.args.tables.now c.args.pass may q r l z s,
       now_outputs w c.args.grid.now ok c.requires.checked caps age c.args.tables.now c.args.pass may q r l z s,
-      subst (λ x. Answers (outcome w caps c.args.grid.now) (Ok x)) (sym (c.worked-work.ensures ∙ ap anew_work (c.size.ensures ∙ size.0)))
+      subst (λ x. Answers caps None (outcome w caps c.args.grid.now) (Ok x)) (sym (c.worked-work.ensures ∙ ap anew_work (c.size.ensures ∙ size.0)))
           (now_answered w c.args.grid.now ok c.requires.checked caps age c.args.tables.now c.args.pass may q (Good r) l z s),
+      first_recorded w c.args.grid.now caps age c.args.tables.now r c.args.pass q z ok c.requires.checked (few_nodes m.0 caps c.args.pass m.2 m.4.all.nodes may.all.nodes) may l s,
     )
 
 pub returns-in-Err-clause-run : goal.returns-in-Err-clause-run
@@ -85,6 +88,6 @@ returns-in-Err-clause-run g c caps age may =
     let all = now_all w c.args.grid.now ok c.requires.checked caps age c.args.tables.now c.args.pass may q (halted k.0 c.in-Err.halt) l z s in (
       c.cleared-pass.ensures.all c.args.grid.now outs caps age ok all,
       c.cleared-pass.ensures.clear c.args.grid.now outs caps age all,
-      subst (λ x. Answers (outcome w caps c.args.grid.now) x) (answer_halted k.0 c.in-Err.halt ∙ ap Err (sym c.answer_of.ensures))
+      subst (λ x. Answers caps None (outcome w caps c.args.grid.now) x) (answer_halted k.0 c.in-Err.halt ∙ ap Err (sym c.answer_of.ensures))
           (now_answered w c.args.grid.now ok c.requires.checked caps age c.args.tables.now c.args.pass may q (halted k.0 c.in-Err.halt) l z s),
     )

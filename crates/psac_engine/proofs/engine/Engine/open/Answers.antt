@@ -3,11 +3,14 @@ use Rattle.psac_model.specs.Fresh.{main_of}
 use Rattle.psac_values.specs.Steps as values
 use Rattle.psac_readers.specs.Steps as readers
 use Rattle.psac_record.specs.declared.record.Record.{Record}
-use Rattle.psac_record.specs.Shown.{rec_of}
+use Rattle.std.specs.Option.{ForSome}
+use Rattle.psac_fork.specs.declared.tables.Pass.{Pass}
+use Rattle.psac_record.specs.Shown.{kept_of, rec_of}
+use Rattle.psac_stage.specs.Recorded.{Recorded}
 use Rattle.psac_stage.specs.Places.{fixed_slots}
 use Rattle.psac_engine.specs.Running.{Shows}
 use Rattle.psac_engine.specs.Sound.{world_with}
-use Rattle.psac_engine.proofs.Engines.{for_none, some_not}
+use Rattle.psac_engine.proofs.Engines.{for_none, for_some, some_not}
 use Rattle.psac_engine.proofs.Opens.{fixed_made, of_opened, all_opened, rested_opened, cleared_opened, nothing_opened}
 use Rattle.psac_engine.proofs.engine.Engine.open.Goals as goal
 
@@ -48,5 +51,7 @@ invariant_of-result c =
       outputs = nothing_opened w g _;
       small = λ z. some_not (sym z);
       done = λ z. some_not (sym z);
+      stands = for_some (λ (p : Pass). ForSome None (λ (x : Record). ∥ Recorded w g (kept_of x) p.values.knows p.readers.knows p.marks.knows ∥₁)) _
+          (for_none (λ (x : Record). ∥ Recorded w g (kept_of x) _ _ _ ∥₁) None refl);
       shows = for_none (λ (x : Record). ∥ Shows w g caps (rec_of x) ∥₁) None refl;
     }

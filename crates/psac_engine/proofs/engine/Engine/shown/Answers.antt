@@ -1,5 +1,9 @@
 use Rattle.std.proofs.Common.{◌≡◌, ◌∙◌, ◌+◌, ◌*◌, ap, sym, length, is_some, true, false, refl, arith}
+use Rattle.std.specs.Option.{ForSome}
 use Rattle.psac_fork.specs.declared.tables.Pass.{Pass}
+use Rattle.psac_record.specs.declared.record.Record.{Record}
+use Rattle.psac_record.specs.Shown.{kept_of}
+use Rattle.psac_stage.specs.Recorded.{Recorded}
 use Rattle.psac_fork.specs.Whole.{IsOf}
 use Rattle.psac_plain.specs.Opened.{first_output}
 use Rattle.psac_stage.specs.Places.{fixed_slots}
@@ -7,7 +11,7 @@ use Rattle.psac_stage.specs.Resting.{HasAll, IsRested, IsCleared}
 use Rattle.psac_engine.specs.Outputs.{HasOutputs}
 use Rattle.psac_engine.specs.Sound.{world_with}
 use Rattle.psac_engine.proofs.Engines.{for_some, some_not}
-use Rattle.psac_engine.proofs.Showing.{all_looked, have_outputs, is_kept, outputs_kept, outputs_looked, outputs_told, rewound_looked}
+use Rattle.psac_engine.proofs.Showing.{all_looked, have_outputs, is_kept, outputs_kept, outputs_looked, outputs_told, rewound_looked, stands_looked}
 use Rattle.psac_engine.proofs.engine.Engine.shown.Goals as goal
 
 pub show_slots-told-requires-clause-fixed : goal.show_slots-told-requires-clause-fixed
@@ -52,6 +56,8 @@ invariant_of-self c =
       outputs = for_some (λ (q : Pass). is_some e.kept ≡ true → HasOutputs w e.grid q.values.knows) _ (λ z. outputs_looked w e.grid v u only (e.outputs p at some));
       small = e.small;
       done = e.done;
+      stands = for_some (λ (q : Pass). ForSome e.kept (λ (k : Record). ∥ Recorded w e.grid (kept_of k) q.values.knows q.readers.knows q.marks.knows ∥₁)) _
+          (stands_looked w e.grid e.kept v u p.readers.knows p.marks.knows only (e.stands p at));
       shows = e.shows;
     }
 
