@@ -1,13 +1,12 @@
--- A session by a step of its own; and the first form of the step, in which every commit runs anew and what holds a
--- modifiable isn't there yet.
+-- A session by a step of its own; and the first form of the step, in which what holds a modifiable isn't there yet.
 use Rattle.std.specs.Prelude.{ℕ, Bool, true, false, List, [], ◌∷◌, Option, Some, None}
 use Rattle.psac_base.specs.Feeds.{lines_of}
 use Rattle.psac_inputs.specs.Texts.{Texts}
 use Rattle.psac_inputs.specs.Grid.{Grid}
 use Rattle.psac_model.specs.declared.ends.Caps.{Caps}
 use Rattle.psac_model.specs.Fresh.{World}
-use Rattle.psac_report.specs.Script.{Command, Quit, Commit, HoldOut, HoldRef, HoldFst, HoldSnd, ShowHeld, command_of}
-use Rattle.psac_report.specs.Session.{State, Reply, RefusedForm, begun, committed, step_of}
+use Rattle.psac_report.specs.Script.{Command, Quit, HoldOut, HoldRef, HoldFst, HoldSnd, ShowHeld, command_of}
+use Rattle.psac_report.specs.Session.{State, Reply, RefusedForm, begun, step_of}
 use Rattle.psac_report.specs.Report.{written_then}
 
 -- the state after a command, if the line is one, and the reply
@@ -32,13 +31,8 @@ quits command = false
 abbrev pub is_quit : List ℕ → Bool
 is_quit line = quits (command_of line)
 
--- a commit that runs anew, also where a record is kept
-abbrev pub committed_anew : World → Caps → State → State × Reply
-committed_anew w caps s = committed w caps (record s { kept = None })
-
 -- the commands that come later are refused
 abbrev pub first_step : World → Caps → Step
-first_step w caps s (Some Commit) = committed_anew w caps s
 first_step w caps s (Some (HoldOut h i)) = (s, RefusedForm)
 first_step w caps s (Some (HoldRef h g)) = (s, RefusedForm)
 first_step w caps s (Some (HoldFst h g)) = (s, RefusedForm)

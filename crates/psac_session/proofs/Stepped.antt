@@ -10,13 +10,13 @@ use Rattle.psac_model.specs.declared.ends.Caps.{Caps}
 use Rattle.psac_model.specs.declared.ends.End.{End}
 use Rattle.psac_model.specs.declared.ends.End.TheVariants.{Done, Stop}
 use Rattle.psac_model.specs.declared.ends.Work.{Work}
-use Rattle.psac_model.specs.Work.{anew_work}
+use Rattle.psac_model.specs.Redo.{redo}
+use Rattle.psac_model.specs.Work.{anew_work, inside, mode_of, work_in}
 use Rattle.psac_model.specs.Names.{Name, Heap}
 use Rattle.psac_model.specs.Tree.{Tree, size_of}
 use Rattle.psac_model.specs.Run.{Ran}
 use Rattle.psac_model.specs.Fresh.{World, fresh, judged, outcome, over}
-use Rattle.psac_report.specs.Session.{Kept, Place, Reply, RefusedRange, Nothing, Worked, Faulted, TooLarge, State, after_outcome, committed, gone_stale, is_made, place_count, rows_step}
-use Rattle.psac_report.specs.First.{committed_anew}
+use Rattle.psac_report.specs.Session.{Kept, Place, Reply, RefusedRange, Nothing, Worked, Faulted, TooLarge, State, after_outcome, committed, gone_stale, is_lost, is_made, place_count, rows_step}
 use Rattle.psac_engine.specs.declared.answer.Answer.{Answer}
 use Rattle.psac_engine.specs.declared.answer.Answer.TheVariants as answer
 use Rattle.psac_engine.specs.Commit.{Answers, kept_after}
@@ -61,26 +61,32 @@ abbrev kept_run : Ran Name Heap → Result Work Answer → Option (Ran Name Heap
 kept_run r (Ok work) = Some r
 kept_run r (Err a) = None
 
--- the state after an outcome, where nothing was kept before it
-by_judged : (caps : Caps) (g : Grid) (texts : Texts) (kinds : List CapKind) (end : End) (tree : Tree Name) (heap : Heap) (result : Result Work Answer) (reply : Reply)
-    → Answers (judged kinds (record { tree = tree; heap = heap; end = end })) result → IsReplyTo result reply
-    → after_outcome caps (record { grid = g; texts = texts; kept = None; staged = g; places = no_places }) (judged kinds (record { tree = tree; heap = heap; end = end }))
+-- the state after an outcome
+by_judged : (caps : Caps) (g : Grid) (texts : Texts) (old : Option (Ran Name Heap)) (kinds : List CapKind) (end : End) (tree : Tree Name) (heap : Heap) (result : Result Work Answer) (reply : Reply)
+    → Answers caps old (judged kinds (record { tree = tree; heap = heap; end = end })) result → IsReplyTo result reply
+    → after_outcome caps (record { grid = g; texts = texts; kept = option_map kept_of old; staged = g; places = no_places }) (judged kinds (record { tree = tree; heap = heap; end = end }))
     ≡ (let s : State = record { grid = g; texts = texts; kept = option_map kept_of (kept_run (record { tree = tree; heap = heap; end = end }) result); staged = g; places = no_places } in s, reply)
-by_judged caps g texts kinds end tree heap (Err answer.NoMemory) reply answers replies = absurd replies
-by_judged caps g texts [] Done tree heap (Ok work) reply answers replies =
+by_judged caps g texts old kinds end tree heap (Err answer.NoMemory) reply answers replies = absurd replies
+by_judged caps g texts None [] Done tree heap (Ok work) reply answers replies =
     let After : List (Option Place) → State × Reply =
     λ ps. (record { grid = g; texts = texts; kept = Some (record { tree = tree; heap = heap }); staged = g; places = ps }, Worked (anew_work (size_of tree))) in
     rw (replies, answers) (ap After (no_place_stale is_made))
-by_judged caps g texts [] Done tree heap (Err (answer.Fault _ _)) reply answers replies = absurd answers
-by_judged caps g texts [] Done tree heap (Err (answer.Full _)) reply answers replies = absurd answers
-by_judged caps g texts [] (Stop _ _) tree heap (Ok work) reply answers replies = absurd answers
-by_judged caps g texts [] (Stop k l) tree heap (Err (answer.Fault k' l')) reply answers replies =
+by_judged caps g texts (Some old) [] Done tree heap (Ok work) reply answers replies =
+    let zs = redo old.tree tree in
+    let mode = mode_of caps (size_of old.tree) (inside zs tree) in
+    let After : List (Option Place) → State × Reply =
+    λ ps. (record { grid = g; texts = texts; kept = Some (record { tree = tree; heap = heap }); staged = g; places = ps }, Worked (work_in mode zs old.tree tree)) in
+    rw (replies, answers) (ap After (no_place_stale (is_lost mode zs)))
+by_judged caps g texts old [] Done tree heap (Err (answer.Fault _ _)) reply answers replies = absurd answers
+by_judged caps g texts old [] Done tree heap (Err (answer.Full _)) reply answers replies = absurd answers
+by_judged caps g texts old [] (Stop _ _) tree heap (Ok work) reply answers replies = absurd answers
+by_judged caps g texts old [] (Stop k l) tree heap (Err (answer.Fault k' l')) reply answers replies =
     let After : List (Option Place) → State × Reply = λ ps. (record { grid = g; texts = texts; kept = None; staged = g; places = ps }, Faulted k l) in
     rw (replies, answers.0, answers.1) (ap After (no_place_stale is_made))
-by_judged caps g texts [] (Stop k l) tree heap (Err (answer.Full _)) reply answers replies = absurd answers
-by_judged caps g texts (k ∷ ks) end tree heap (Ok work) reply answers replies = absurd answers
-by_judged caps g texts (k ∷ ks) end tree heap (Err (answer.Fault _ _)) reply answers replies = absurd answers
-by_judged caps g texts (k ∷ ks) end tree heap (Err (answer.Full which)) reply answers replies =
+by_judged caps g texts old [] (Stop k l) tree heap (Err (answer.Full _)) reply answers replies = absurd answers
+by_judged caps g texts old (k ∷ ks) end tree heap (Ok work) reply answers replies = absurd answers
+by_judged caps g texts old (k ∷ ks) end tree heap (Err (answer.Fault _ _)) reply answers replies = absurd answers
+by_judged caps g texts old (k ∷ ks) end tree heap (Err (answer.Full which)) reply answers replies =
     let After : List (Option Place) → State × Reply = λ ps. (record { grid = g; texts = texts; kept = None; staged = g; places = ps }, TooLarge) in
     rw replies (ap After (no_place_stale is_made))
 
@@ -89,14 +95,14 @@ kept_same w g (Ok work) = refl
 kept_same w g (Err a) = refl
 
 -- the state after a commit
-pub commit_step : (w : World) (caps : Caps) (g0 g g' : Grid) (texts : Texts) (k : Option Kept) (b' : Batch) (kept : Option (Ran Name Heap)) (result : Result Work Answer) (reply : Reply)
-    → g' ≡ g → b' ≡ empty_batch g' → Answers (outcome w caps g') result → kept ≡ kept_after w g' result → IsReplyTo result reply
-    → committed_anew w caps (record { grid = g0; texts = texts; kept = k; staged = g; places = no_places })
+pub commit_step : (w : World) (caps : Caps) (g0 g g' : Grid) (texts : Texts) (old : Option (Ran Name Heap)) (b' : Batch) (kept : Option (Ran Name Heap)) (result : Result Work Answer) (reply : Reply)
+    → g' ≡ g → b' ≡ empty_batch g' → Answers caps old (outcome w caps g') result → kept ≡ kept_after w g' result → IsReplyTo result reply
+    → committed w caps (record { grid = g0; texts = texts; kept = option_map kept_of old; staged = g; places = no_places })
     ≡ (let s : State = record { grid = g'; texts = texts; kept = option_map kept_of kept; staged = put_all b' g'; places = no_places } in s, reply)
 unfolding committed
-commit_step w caps g0 g g' texts k b' kept result reply same batch answers kept_is replies =
+commit_step w caps g0 g g' texts old b' kept result reply same batch answers kept_is replies =
     let r = fresh w g' in
-    rw (batch, kept_is, kept_same w g' result, ← same) (by_judged caps g' texts (over (size_of r.tree) caps) r.end r.tree r.heap result reply answers replies)
+    rw (batch, kept_is, kept_same w g' result, ← same) (by_judged caps g' texts old (over (size_of r.tree) caps) r.end r.tree r.heap result reply answers replies)
 
 pub ok_then : {A E : Type 0} (P Q : A → Type 0) (r : Result A E) → ((x : A) → P x → Q x) → IfOk r P → IfOk r Q
 ok_then P Q (Ok x) then_ h = then_ x h

@@ -4,8 +4,8 @@ ghost use Rattle.psac_inputs.specs.Grid.{has_cell};
 ghost use Rattle.psac_inputs.specs.Batch.{empty_batch, put_all, GoesInto};
 ghost use Rattle.psac_inputs.specs.Texts.{Texts};
 ghost use Rattle.psac_report.specs.Script.{command_of};
-ghost use Rattle.psac_report.specs.Session.{rows_step, set_step};
-ghost use Rattle.psac_report.specs.First.{committed_anew, first_step, is_quit, quits};
+ghost use Rattle.psac_report.specs.Session.{committed, rows_step, set_step};
+ghost use Rattle.psac_report.specs.First.{first_step, is_quit, quits};
 ghost use Rattle.psac_script.specs.Commands.{command_view};
 ghost use Rattle.psac_script.specs.Replies.{reply_view};
 ghost use Rattle.psac_engine.specs.Commit.{most_commits};
@@ -135,7 +135,7 @@ impl Desk {
         requires goes { GoesInto self.old.batch (grid_in engine.old) }
         requires few { commits_in engine.old < most_commits }
         ensures step { IfOk result (λ reply. (texts : Texts)
-            → committed_anew (world_in engine.old) (caps_in engine.old) (state_in engine.old self.old texts) ≡ (state_in engine.new self.new texts, reply_view reply)) }
+            → committed (world_in engine.old) (caps_in engine.old) (state_in engine.old self.old texts) ≡ (state_in engine.new self.new texts, reply_view reply)) }
         ensures goes { GoesInto self.new.batch (grid_in engine.new) }
         ensures commits { commits_in engine.new ≡ commits_in engine.old + 1 }
         ensures world { world_in engine.new ≡ world_in engine.old }

@@ -16,7 +16,7 @@ use std::thread::Threads;
 /// Carries out a script, line by line, up to `quit` or its end. A reply that isn't empty is written as one piece,
 /// before the next line is read.
 ///
-/// In this first form every commit runs anew, and `hold` and `held` are refused as no commands.
+/// In this first form `hold` and `held` are refused as no commands.
 pub fn session<Rt: Threads + Sync, S: Source, K: Sink, G: Gate + Sync>(
     rt: &Rt,
     alloc: Global,

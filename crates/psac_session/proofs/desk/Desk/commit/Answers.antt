@@ -12,6 +12,6 @@ returns-clause-step g c =
     let old = c.args.engine.now in
     let new = c.commit.new.self in
     commit_step (world_in old) (caps_in old) (grid_in old) (put_all c.args.self.now.batch (grid_in old)) (grid_in new) texts
-    (state_in old c.args.self.now texts).kept c.commit.new.batch (kept_in new) c.commit.result (reply_view reply) c.commit.ensures.grid
+    (kept_in old) c.commit.new.batch (kept_in new) c.commit.result (reply_view reply) c.commit.ensures.grid
     c.commit.ensures.batch c.commit.ensures.answer c.commit.ensures.kept replies)
     c.reply_to.ensures
