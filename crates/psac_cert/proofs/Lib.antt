@@ -4,3 +4,5 @@ pub mod Renaming
 pub mod Lined
 pub mod Written
 pub mod Dumped
+pub mod Parting
+pub mod Judging

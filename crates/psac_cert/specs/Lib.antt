@@ -1,3 +1,4 @@
 pub mod Named
 pub mod Lines
 pub mod Told
+pub mod Compared

@@ -67,6 +67,19 @@ fn sides(alloc: Global) -> Result<Record, AllocError> {
     Record::made(alloc, made(3), par)
 }
 
+// What the text is found to be beside the record of the doubling program over one cell.
+fn found(alloc: Global, text: &[u8]) -> Result<Verdict, Fail> {
+    let mut texts = Interner::new(alloc)?;
+    let Ok(grid) = load_lines(alloc, b"21\n", &mut texts) else {
+        return Err("no input")?;
+    };
+    let Ok(program) = parse(alloc, DOUBLE.as_bytes()) else {
+        return Err("no program")?;
+    };
+    let record = doubled(alloc)?;
+    Ok(compare(alloc, &record, &program, &grid, &texts, text)?)
+}
+
 // The dump of a record of the doubling program over one cell.
 fn dump_of(alloc: Global, record: &Record) -> Result<MemSink, Fail> {
     let mut texts = Interner::new(alloc)?;
@@ -115,5 +128,20 @@ fn names_what_was_made_by_its_turns(rt: HostRuntime) -> Result<(), Fail> {
             b"psac record 1\nA\nS\nP\nR 7 out=nil main=true | r=-1 m/=&c/0/0\nE\nA\nW m/301 &m/301,m/\nE\nE\n"
         )
     );
+    Ok(())
+}
+
+#[test]
+fn finds_its_dump_and_where_others_part_from_it(rt: HostRuntime) -> Result<(), Fail> {
+    let alloc = rt.alloc();
+    let whole = b"psac record 1\nS\nR 0 out=&o/0 | c/0/0=21\nW o/0 42\nE\nE\n";
+    assert!(rt; found(alloc, whole)? == Verdict::Yes);
+    assert!(rt; found(alloc, &whole[..52])? == Verdict::No { at: 52 });
+    let other = b"psac record 1\nS\nR 0 out=&o/0 | c/0/0=21\nW o/0 43\nE\nE\n";
+    assert!(rt; found(alloc, other)? == Verdict::No { at: 47 });
+    let longer = b"psac record 1\nS\nR 0 out=&o/0 | c/0/0=21\nW o/0 42\nE\nE\n\n";
+    assert!(rt; found(alloc, longer)? == Verdict::No { at: 53 });
+    assert!(rt; found(alloc, b"psac 1\n")? == Verdict::No { at: 5 });
+    assert!(rt; found(alloc, b"")? == Verdict::No { at: 0 });
     Ok(())
 }

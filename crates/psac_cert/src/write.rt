@@ -60,8 +60,8 @@ fn write_lines<K: Sink>(
     }
 }
 
-// What a record is written with, and what is left of it.
-fn begin<'a>(
+/// What a record is written with, and what is left of it.
+pub fn begin<'a>(
     alloc: Global,
     tree: &'a Record,
     program: &'a Program,
