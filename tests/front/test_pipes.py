@@ -74,9 +74,9 @@ class Pipes(support.Case):
     def test_replies_come_at_once(self):
         for hints in ("0", "1"):
             it = self.session(hints)
-            for _ in range(3):
+            for mode in (b"mode=anew", b"mode=repair", b"mode=repair"):
                 it.stdin.write(b"commit\n")
-                self.assertTrue(it.stdout.readline().startswith(b"mode=anew"))
+                self.assertTrue(it.stdout.readline().startswith(mode))
             it.stdin.close()
             self.assertEqual(it.wait(support.PATIENCE), 0)
 

@@ -9,6 +9,9 @@ from support import Terminal
 
 PROMPT = b"psac> "
 WORK = b"mode=anew visited=0 rerun=0 inside=1 dropped=0 nodes=2 mods=0 links=1\r\n"
+# The one block runs again, or nothing does.
+AGAIN = b"mode=repair visited=2 rerun=1 inside=0 dropped=0 nodes=0 mods=0 links=0\r\n"
+QUIET = b"mode=repair visited=0 rerun=0 inside=0 dropped=0 nodes=0 mods=0 links=0\r\n"
 TWO = "func main(; out, same) {\n  read cell(0, 0) as x { write out = x * 2; write same = 1; }\n}\n"
 
 # A program that is at work on a commit until the file `go` is there, but for the first FREE ones. It answers what the front
@@ -75,7 +78,7 @@ class Session(Prompt):
         self.assertEqual(self.reply("# a comment"), b"")
         self.assertEqual(self.reply(""), b"")
         self.assertEqual(self.reply("show"), b"out = 42\r\n")
-        self.assertEqual(self.reply("commit"), WORK)
+        self.assertEqual(self.reply("commit"), AGAIN)
         self.assertEqual(self.reply("show"), b"out = 10\r\n")
         self.terminal.type(b"quit\n")
         self.assertEqual(self.terminal.status(), 0)
@@ -212,8 +215,8 @@ class Autoshow(Prompt):
         self.assertEqual(self.reply("commit"), WORK)
         self.assertIn(b"* marks those that changed", self.reply("autoshow"))
         self.reply("set 0 0 5")
-        self.assertEqual(self.reply("commit"), WORK + b"* out = 10\r\n  same = 1\r\n")
-        self.assertEqual(self.reply("commit"), WORK + b"  out = 10\r\n  same = 1\r\n")
+        self.assertEqual(self.reply("commit"), AGAIN + b"* out = 10\r\n  same = 1\r\n")
+        self.assertEqual(self.reply("commit"), QUIET + b"  out = 10\r\n  same = 1\r\n")
         # What show answers is the program's own still.
         self.assertEqual(self.reply("show"), b"out = 10\r\nsame = 1\r\n")
         # A commit that doesn't end well shows nothing; the next one is compared with what was shown last.
@@ -222,7 +225,7 @@ class Autoshow(Prompt):
         self.reply("set 0 0 6")
         self.assertEqual(self.reply("commit"), WORK + b"* out = 12\r\n  same = 1\r\n")
         self.assertEqual(self.reply("autoshow"), b"autoshow is off.\r\n")
-        self.assertEqual(self.reply("commit"), WORK)
+        self.assertEqual(self.reply("commit"), QUIET)
         self.end()
 
     def test_words(self):
@@ -241,7 +244,7 @@ class Autoshow(Prompt):
         self.reply("autoshow")
         self.reply("commit")
         self.reply("set 0 0 5")
-        self.assertEqual(self.reply("commit"), WORK + b"\x1b[1m* out = 10\x1b[0m\r\n  same = 1\r\n")
+        self.assertEqual(self.reply("commit"), AGAIN + b"\x1b[1m* out = 10\x1b[0m\r\n  same = 1\r\n")
         self.end()
 
 
@@ -277,7 +280,7 @@ class Keys(Prompt):
         self.assertEqual(self.reply("show"), b"out = 42\r\n")
         # Up twice: the commit before the show.
         self.terminal.type(b"\x1b[A\x1b[A\n")
-        self.assertIn(WORK, self.terminal.until(PROMPT))
+        self.assertIn(QUIET, self.terminal.until(PROMPT))
         self.end()
         self.assertEqual(self.history(), "commit\nshow\n# here\ncommit\nshow\ncommit\n")
         self.assertEqual(os.stat(f"{self.folder}/psac/history").st_mode & 0o77, 0)

@@ -231,9 +231,9 @@ fn refused_memory(rt: HostRuntime) {
     let sum =
         "mode=anew visited=0 rerun=0 inside=7 dropped=0 nodes=34 mods=6 links=10\nout = 10\nS=24 P=3 R=7 mods=6 links=10\n";
     let edited =
-        "mode=anew visited=0 rerun=0 inside=7 dropped=0 nodes=34 mods=6 links=10\nmode=anew visited=0 rerun=0 inside=7 dropped=0 nodes=34 mods=6 links=10\nout = 14\n";
+        "mode=anew visited=0 rerun=0 inside=7 dropped=0 nodes=34 mods=6 links=10\nmode=repair visited=16 rerun=3 inside=0 dropped=0 nodes=0 mods=0 links=0\nout = 14\n";
     let inner =
-        "mode=anew visited=0 rerun=0 inside=3 dropped=0 nodes=6 mods=2 links=3\nout = 1\nmode=anew visited=0 rerun=0 inside=3 dropped=0 nodes=6 mods=2 links=3\nout = 1\n";
+        "mode=anew visited=0 rerun=0 inside=3 dropped=0 nodes=6 mods=2 links=3\nout = 1\nmode=repair visited=4 rerun=2 inside=1 dropped=1 nodes=2 mods=1 links=1\nout = 1\n";
     let rows = [
         ("psac once p.psac i.txt", DOUBLE, "21\n", "", "out = 42\n"),
         (SESSION, SUM, "1\n2\n3\n4\n", "commit\nshow\ntree\n", sum),

@@ -15,7 +15,7 @@ fn one_session(rt: HostRuntime) {
     let script = "show\ncommit\nshow\nset 0 0 5\nshow\ncommit\nshow\nquit\nshow\n";
     let case = session(LINES, DOUBLE, "21\n", script);
     let text =
-        "none\nmode=anew visited=0 rerun=0 inside=1 dropped=0 nodes=2 mods=0 links=1\nout = 42\nout = 42\nmode=anew visited=0 rerun=0 inside=1 dropped=0 nodes=2 mods=0 links=1\nout = 10\n";
+        "none\nmode=anew visited=0 rerun=0 inside=1 dropped=0 nodes=2 mods=0 links=1\nout = 42\nout = 42\nmode=repair visited=2 rerun=1 inside=0 dropped=0 nodes=0 mods=0 links=0\nout = 10\n";
     assert!(rt; gives(&rt, rt.alloc(), &case, 0, text) == Ok(true));
 }
 
@@ -25,7 +25,7 @@ fn a_sales_report(rt: HostRuntime) {
     let input = "north,120\nsouth,75\n\"north\",30\n";
     let case = session(RECORDS, SALES, input, script);
     let text =
-        "mode=anew visited=0 rerun=0 inside=5 dropped=0 nodes=28 mods=4 links=10\ntotal = 150\nmode=anew visited=0 rerun=0 inside=5 dropped=0 nodes=28 mods=4 links=10\ntotal = 225\n";
+        "mode=anew visited=0 rerun=0 inside=5 dropped=0 nodes=28 mods=4 links=10\ntotal = 150\nmode=repair visited=17 rerun=3 inside=0 dropped=0 nodes=1 mods=0 links=0\ntotal = 225\n";
     assert!(rt; gives(&rt, rt.alloc(), &case, 0, text) == Ok(true));
 }
 

@@ -9,6 +9,9 @@ use std::thread::Threads;
 
 const ONE: &str = "mode=anew visited=0 rerun=0 inside=1 dropped=0 nodes=2 mods=0 links=1\n";
 
+// The one block runs again, and makes what it made before.
+const AGAIN: &str = "mode=repair visited=2 rerun=1 inside=0 dropped=0 nodes=0 mods=0 links=0\n";
+
 // A session that ends well writes this.
 fn writes<Rt: Threads + Abort + Sync>(
     rt: &Rt,
@@ -41,7 +44,14 @@ fn over<'a>(program: &'a str, input: &'a str) -> Opening<'a> {
 fn commits_and_shows(rt: HostRuntime) -> Result<(), Fail> {
     let alloc = rt.alloc();
     let script = "show\ncommit\nshow\nset 0 0 5\nshow\ncommit\nshow\nquit\nshow\n";
-    let report = ["none\n", ONE, "out = 42\n", "out = 42\n", ONE, "out = 10\n"];
+    let report = [
+        "none\n",
+        ONE,
+        "out = 42\n",
+        "out = 42\n",
+        AGAIN,
+        "out = 10\n",
+    ];
     writes(&rt, alloc, over(DOUBLE, "21\n"), script, &report)
 }
 
@@ -66,7 +76,7 @@ fn fault_and_anew(rt: HostRuntime) -> Result<(), Fail> {
 fn texts(rt: HostRuntime) -> Result<(), Fail> {
     let alloc = rt.alloc();
     let script = "set 0 0 \ncommit\nshow\nset 0 0 a \"b\ncommit\nshow\n";
-    let report = [ONE, "out = \"\"\n", ONE, "out = \"a \\\"b\"\n"];
+    let report = [ONE, "out = \"\"\n", AGAIN, "out = \"a \\\"b\"\n"];
     writes(&rt, alloc, over(COPY, "7\n"), script, &report)?;
     let report = ["fault kind line 3\n", "none\n"];
     let opening = over(DOUBLE, "1\n");
@@ -93,10 +103,10 @@ fn rows(rt: HostRuntime) -> Result<(), Fail> {
         ONE,
         "out = 2\n",
         "out = 2\n",
-        ONE,
+        AGAIN,
         "out = 3\n",
         "refused range\n",
-        ONE,
+        AGAIN,
         "out = 1\n",
     ];
     writes(&rt, alloc, over(ROW_COUNT, "1\n2\n"), script, &report)
