@@ -39,10 +39,11 @@ COMMANDS = {
     ),
     "commit": Command(
         "commit",
-        "puts what is staged into the grid, and runs the program",
-        "The answer is the work line, such as mode=anew .. inside=11 .. links=22: so\n"
-        "many read blocks were run, and so many cells and places were read. Or it is a\n"
-        "fault line, or full: the edits stay in the grid then, and show answers none.",
+        "puts what is staged into the grid, and runs what has to be run",
+        "The answer is the work line. mode=anew .. inside=11 ..: the program was run\n"
+        "from the start, with so many read blocks. mode=repair .. rerun=7 ..: so many of\n"
+        "them ran again. Or the answer is a fault line, or full: the edits stay in the\n"
+        "grid then, and show answers none.",
         "commit",
     ),
     "show": Command(
