@@ -16,10 +16,10 @@ use Rattle.psac_traced.specs.Bodies.{IsCode}
 use Rattle.psac_record.specs.Kept.{Kept, bare}
 use Rattle.psac_trace.specs.Asking.{setting_on}
 use Rattle.psac_trace.specs.declared.ground.Ground.{Ground}
-use Rattle.psac_repair.specs.declared.world.Code.{Code}
 use Rattle.psac_repair.specs.declared.world.World.{World as Around}
 use Rattle.psac_repair.specs.Ended.{Ended}
 use Rattle.psac_repair.specs.Going.{Views, views, Before, After}
+use Rattle.psac_repair.specs.Indexed.{Code}
 use Rattle.psac_repair.specs.Mends.{Needs, Tells}
 use Rattle.psac_repair.specs.Repairing.{setting_of, BeforeIn, Leaves}
 use Rattle.psac_stage.specs.Recorded.{Mendable, setting_at}

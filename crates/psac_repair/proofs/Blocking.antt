@@ -7,8 +7,7 @@ use Rattle.psac_syntax.specs.declared.program.Expr.{Expr}
 use Rattle.psac_syntax.specs.declared.program.ReadItem.{ReadItem}
 use Rattle.psac_traced.specs.Blocks.{Block, Found, found, found_in, blocks_in}
 use Rattle.psac_traced.proofs.Blocks.{found_out, read_found, two_found}
-use Rattle.psac_repair.specs.declared.world.Code.{Code}
-use Rattle.psac_repair.specs.Indexed.{ArePut}
+use Rattle.psac_repair.specs.Indexed.{Code, ArePut}
 use Rattle.psac_repair.proofs.Indexed.{then_put}
 
 abbrev all_in : List Stmt → List Block

@@ -9,9 +9,8 @@ use Rattle.psac_model.specs.Fresh.{main_of, is_named_main}
 use Rattle.psac_plain.proofs.Lists.{get_set_within, get_set_other}
 use Rattle.psac_traced.specs.Blocks.{Block, blocks_in, blocks_of, numbers_of}
 use Rattle.psac_traced.proofs.Blocks.{read_listed}
-use Rattle.psac_repair.specs.declared.world.Code.{Code}
 use Rattle.psac_repair.specs.declared.world.World.{World}
-use Rattle.psac_repair.specs.Indexed.{IsAt, With, WithAll, ArePut, AreIndexed}
+use Rattle.psac_repair.specs.Indexed.{Code, IsAt, With, WithAll, ArePut, AreIndexed}
 use Rattle.psac_repair.specs.Repairing.{IsIndexed}
 
 with_more : (x : Block) (H K : Block → Type 0) → ((b : Block) → H b → K b) → (b : Block) → With x H b → With x K b
@@ -34,7 +33,7 @@ module _ (number : ℕ) (code : Code) (old longer : List Code) where
   abbrev Kept : Type 0
   Kept = (n : ℕ) (c : Code) → slice_get old n ≡ Some c → slice_get longer n ≡ Some c
 
-  pub one_put : number < length longer → Kept → ArePut ((number, code.items.now, code.body.now) ∷ []) old (slice_set longer number code)
+  pub one_put : number < length longer → Kept → ArePut ((number, code.0.now, code.1.now) ∷ []) old (slice_set longer number code)
   one_put within kept b (inl e) =
       let made = get_set_within longer number code within in
       subst (IsAt (slice_set longer number code)) (sym e) (code, made, refl, refl)

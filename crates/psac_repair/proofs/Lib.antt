@@ -50,6 +50,7 @@ pub mod Starting
 pub mod Gathering
 pub mod Retold
 pub mod Redone
+pub mod Crossing
 pub mod Whole
 pub mod Walking
 pub mod Pairing

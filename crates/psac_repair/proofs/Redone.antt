@@ -51,7 +51,7 @@ use Rattle.psac_trace.proofs.Moving.{each_cap}
 use Rattle.psac_trace.proofs.Heaps.{held_front}
 use Rattle.psac_trace.proofs.Raised.{knows_cases, puts_in}
 use Rattle.psac_repair.specs.declared.world.World.{World}
-use Rattle.psac_repair.specs.declared.world.Code.{Code}
+use Rattle.psac_repair.specs.Indexed.{Code}
 use Rattle.psac_repair.specs.declared.outcome.Outcome.{Outcome}
 use Rattle.psac_repair.specs.Ended.{Good, Fault, Other, then_ended}
 use Rattle.psac_repair.specs.Outcomes.{halted, ended_by, end_of, Counts}
@@ -112,21 +112,21 @@ module _ (g : World) (us : List ℕ) (above : Option Handle) (b : Reading) (t re
   abbrev now_block : Reading
   now_block = record b { reads = again }
 
-  numbered : IsBlock program b.block code.items.now code.body.now
+  numbered : IsBlock program b.block code.0.now code.1.now
   numbered s more line others body is so =
       let a = indexed s more line b.block others body is so in
       let same : code ≡ a.0 = some_is (sym found ∙ a.1) in
-      (ap (λ (z : Code). z.items.now) same ∙ a.2, ap (λ (z : Code). z.body.now) same ∙ a.3)
+      (ap (λ (z : Code). z.0.now) same ∙ a.2, ap (λ (z : Code). z.1.now) same ∙ a.3)
 
-  begins : Begun (setting_of g) (bare t) code.body.now (with_reads saved code.items.now (reads_of again)) p.values.knows
-  begins = begun_again program p.values.knows (levels - b.level) b.block saved (reads_of b.reads) (reads_of again) (bare t) (bare rest) code.items.now code.body.now bef.once ch.now ch.other numbered bef.needs
+  begins : Begun (setting_of g) (bare t) code.1.now (with_reads saved code.0.now (reads_of again)) p.values.knows
+  begins = begun_again program p.values.knows (levels - b.level) b.block saved (reads_of b.reads) (reads_of again) (bare t) (bare rest) code.0.now code.1.now bef.once ch.now ch.other numbered bef.needs
 
-  module _ (env : Env Handle) (env_is : env ≡ with_reads saved code.items.now (reads_of again)) (olds : List Handle) (are : Olds olds env t) (q : Pass) (of : IsOf q g.tables.now) (off : TakenOff p q b t) where
+  module _ (env : Env Handle) (env_is : env ≡ with_reads saved code.0.now (reads_of again)) (olds : List Handle) (are : Olds olds env t) (q : Pass) (of : IsOf q g.tables.now) (off : TakenOff p q b t) where
     values_is : q.values.knows ≡ p.values.knows
     values_is = ap (λ z. z.knows) off.values
 
-    begins_env : Begun (setting_of g) (bare t) code.body.now env p.values.knows
-    begins_env = subst (λ z. Begun (setting_of g) (bare t) code.body.now z p.values.knows) (sym env_is) begins
+    begins_env : Begun (setting_of g) (bare t) code.1.now env p.values.knows
+    begins_env = subst (λ z. Begun (setting_of g) (bare t) code.1.now z p.values.knows) (sym env_is) begins
 
     claims_is : (c : CapKind) → claims_in c p ≡ claims_in c q
     claims_is = each_cap (λ c. claims_in c p ≡ claims_in c q)
@@ -141,7 +141,7 @@ module _ (g : World) (us : List ℕ) (above : Option Handle) (b : Reading) (t re
       ap (λ (z : MarksView). z.claims.over) off.marks ∙ bef.room.2,
     )
 
-    pub run_begins : Begins (setting_of g) g.funcs.now olds g.tables.now code.body.now env (Some b.node) q
+    pub run_begins : Begins (setting_of g) g.funcs.now olds g.tables.now code.1.now env (Some b.node) q
     run_begins =
         record {
           of = of;
@@ -151,10 +151,10 @@ module _ (g : World) (us : List ℕ) (above : Option Handle) (b : Reading) (t re
           fit = fit_off p q us above b t bef.planted bef.wired bef.ordered off bef.sets bef.rooted bef.unshared;
           parent = subst (λ z. Keeps z b.node) (sym off.marks) (block_kept p.marks.knows us above b t bef.planted);
           needs = (begins_env.base, begins_env.st, begins_env.end, begins_env.meets, subst (λ v. Ready (setting_of g) begins_env.st begins_env.end.unwritten env v begins_env.base) (sym values_is) begins_env.ready);
-          warns = warns_off p q us above b t bef.planted bef.wired bef.ordered off (setting_of g) code.body.now env olds are bef.owned.0 (λ s d. bef.aged s (wrote_slot (R b t) s d)) begins_env;
+          warns = warns_off p q us above b t bef.planted bef.wired bef.ordered off (setting_of g) code.1.now env olds are bef.owned.0 (λ s d. bef.aged s (wrote_slot (R b t) s d)) begins_env;
         }
 
-    module _ (n : Pass) (e : trace.Ended Kept) (l : Leaves (setting_of g) (traced (setting_of g) g.funcs.now (levels - b.level)) (cut_short (setting_of g) g.funcs.now (levels - b.level)) olds g.tables.now code.body.now env (Some b.node) q n e) where
+    module _ (n : Pass) (e : trace.Ended Kept) (l : Leaves (setting_of g) (traced (setting_of g) g.funcs.now (levels - b.level)) (cut_short (setting_of g) g.funcs.now (levels - b.level)) olds g.tables.now code.1.now env (Some b.node) q n e) where
       stays : Stays p.values.knows n.values.knows
       stays = subst (λ v. Stays v n.values.knows) values_is l.moves.stays
 
@@ -215,12 +215,12 @@ module _ (g : World) (us : List ℕ) (above : Option Handle) (b : Reading) (t re
       room_left = levels - b.level
 
       abbrev RunTells : Env Handle → ValueView → Type 0
-      RunTells scope v = TellsAll (setting_of g) (traced (setting_of g) g.funcs.now room_left) (cut_short (setting_of g) g.funcs.now room_left) code.body.now scope v n.values.knows (drawn_in n l.made) (as_ended (bared e))
+      RunTells scope v = TellsAll (setting_of g) (traced (setting_of g) g.funcs.now room_left) (cut_short (setting_of g) g.funcs.now room_left) code.1.now scope v n.values.knows (drawn_in n l.made) (as_ended (bared e))
 
       tells : PartIn g (bare (R b t)) (bare rest) p.values.knows n.values.knows (drawn_in n l.made) (then_ended (rec.R (levels - b.level) b.block saved (reads_of again)) (as_ended (bared e)))
       tells =
-          (changed_adds program p.values.knows (levels - b.level) b.block saved (reads_of b.reads) (reads_of again) (bare t) (bare rest) code.items.now code.body.now bef.once ch.now ch.other numbered).adds n.values.knows (drawn_in n l.made) (as_ended (bared e)) bef.owned.1 stays
-          (subst (λ z. RunTells z p.values.knows) env_is (subst (RunTells env) values_is (tells_all (setting_of g) g.funcs.now room_left olds g.tables.now code.body.now env (Some b.node) q n e l)))
+          (changed_adds program p.values.knows (levels - b.level) b.block saved (reads_of b.reads) (reads_of again) (bare t) (bare rest) code.0.now code.1.now bef.once ch.now ch.other numbered).adds n.values.knows (drawn_in n l.made) (as_ended (bared e)) bef.owned.1 stays
+          (subst (λ z. RunTells z p.values.knows) env_is (subst (RunTells env) values_is (tells_all (setting_of g) g.funcs.now room_left olds g.tables.now code.1.now env (Some b.node) q n e l)))
 
       off_once : LinksOnce q.readers.knows
       off_once c =
@@ -343,7 +343,7 @@ module _ (g : World) (us : List ℕ) (above : Option Handle) (b : Reading) (t re
     -- the cases
     module _ (n : Pass) where
       abbrev Runs : trace.Ended Kept → Type 0
-      Runs = Leaves (setting_of g) (traced (setting_of g) g.funcs.now (levels - b.level)) (cut_short (setting_of g) g.funcs.now (levels - b.level)) olds g.tables.now code.body.now env (Some b.node) q n
+      Runs = Leaves (setting_of g) (traced (setting_of g) g.funcs.now (levels - b.level)) (cut_short (setting_of g) g.funcs.now (levels - b.level)) olds g.tables.now code.1.now env (Some b.node) q n
 
       -- what the run was to write, where the pass had it
       abbrev Spares : Kept → Type 0
@@ -437,9 +437,9 @@ redo_undone g k rest p o e us above bef =
     subst (λ z. After T us above k (kept_of o.tree) (views p) (views p) z) (sym e) (part_wants code us above k rest (kept_of o.tree) (views p) bef)
 
 -- the outcome of a run
-module _ (g : World) (b : Reading) (t rest : Kept) (p : Pass) (again : List Seen) (ch : Changed p.values.knows b.reads again) (indexed : IsIndexed g) (code : Code) (found : slice_get g.blocks.now b.block ≡ Some code) (env : Env Handle) (env_is : env ≡ with_reads (env_of b.env) code.items.now (reads_of again)) (olds : List Handle) (are : Olds olds env t) (q : Pass) (of : IsOf q g.tables.now) (off : TakenOff p q b t) (n : Pass) where
+module _ (g : World) (b : Reading) (t rest : Kept) (p : Pass) (again : List Seen) (ch : Changed p.values.knows b.reads again) (indexed : IsIndexed g) (code : Code) (found : slice_get g.blocks.now b.block ≡ Some code) (env : Env Handle) (env_is : env ≡ with_reads (env_of b.env) code.0.now (reads_of again)) (olds : List Handle) (are : Olds olds env t) (q : Pass) (of : IsOf q g.tables.now) (off : TakenOff p q b t) (n : Pass) where
   abbrev RunsTo : trace.Ended Kept → Type 0
-  RunsTo = Leaves (setting_of g) (traced (setting_of g) g.funcs.now (levels - b.level)) (cut_short (setting_of g) g.funcs.now (levels - b.level)) olds g.tables.now code.body.now env (Some b.node) q n
+  RunsTo = Leaves (setting_of g) (traced (setting_of g) g.funcs.now (levels - b.level)) (cut_short (setting_of g) g.funcs.now (levels - b.level)) olds g.tables.now code.1.now env (Some b.node) q n
 
   -- where it halted
   halted_left : (h : Halt) (o : Outcome) → Replaces b again t (Err h) o → (us : List ℕ) (above : Option Handle) → After (PartIn g (bare (R b t)) (bare rest)) us above (R b t) (kept_of o.tree) (views p) (views n) (halted h) → After (PartIn g (bare (R b t)) (bare rest)) us above (R b t) (kept_of o.tree) (views p) (views n) (end_of o)

@@ -1,12 +1,18 @@
 -- The read blocks of a program in a table, each at its number.
+use Rattle.std.specs.Borrow.{Bor}
 use Rattle.std.specs.Prelude.{◌≡◌, ◌≢◌, ◌⊎◌, List, [], ◌∷◌, Some, Contains, slice_get}
 use Rattle.psac_syntax.specs.declared.program.Func.{Func}
 use Rattle.psac_traced.specs.Blocks.{Block, blocks_of}
-use Rattle.psac_repair.specs.declared.world.Code.{Code}
+use Rattle.psac_syntax.specs.declared.program.Stmt.{Stmt}
+use Rattle.psac_syntax.specs.declared.program.ReadItem.{ReadItem}
+
+-- a read block of the program: what it reads, and its body
+abbrev pub Code : Type 0
+Code = Bor (List ReadItem) × Bor (List Stmt)
 
 -- this block is in the table, at its number
 abbrev pub IsAt : List Code → Block → Type 0
-IsAt codes b = (code : Code) × (slice_get codes b.0 ≡ Some code) × (code.items.now ≡ b.1) × (code.body.now ≡ b.2)
+IsAt codes b = (code : Code) × (slice_get codes b.0 ≡ Some code) × (code.0.now ≡ b.1) × (code.1.now ≡ b.2)
 
 -- what is in the table once this block is put there
 abbrev pub With : Block → (Block → Type 0) → Block → Type 0

@@ -1,10 +1,15 @@
 -- What the calls of a repair need and leave.
+use Rattle.std.specs.Borrow.{Bor}
 use Rattle.std.specs.Prelude.{◌≡◌, ℕ, List, ◌∷◌, Option, Some, slice_get}
 use Rattle.psac_ops.specs.declared.plain.Handle.{Handle}
+use Rattle.psac_ops.specs.declared.plain.TextId.{TextId}
+use Rattle.psac_syntax.specs.declared.program.Func.{Func}
 use Rattle.psac_syntax.specs.declared.program.Stmt.{Stmt, out-Stmt}
 use Rattle.psac_syntax.specs.declared.program.Stmt.TheOpen.{Stmt-F}
 use Rattle.psac_syntax.specs.declared.program.ReadItem.{ReadItem}
 use Rattle.psac_values.specs.declared.view.ValueView.{ValueView}
+use Rattle.psac_fork.specs.declared.crew.Crew.{Crew}
+use Rattle.psac_fork.specs.declared.tables.Tables.{Tables}
 use Rattle.psac_fork.specs.declared.tables.Pass.{Pass}
 use Rattle.psac_model.specs.declared.ends.CapKind.{CapKind}
 use Rattle.psac_model.specs.Expression.{Setting}
@@ -13,13 +18,19 @@ use Rattle.psac_traced.specs.Bodies.{IsCode}
 use Rattle.psac_record.specs.Kept.{Kept, bare}
 use Rattle.psac_record.specs.Shown.{kept_of}
 use Rattle.psac_trace.specs.Asking.{setting_on}
+use Rattle.psac_trace.specs.declared.ground.Ground.{Ground}
 use Rattle.psac_repair.specs.declared.outcome.Outcome.{Outcome}
-use Rattle.psac_repair.specs.declared.world.Code.{Code}
 use Rattle.psac_repair.specs.declared.world.World.{World}
 use Rattle.psac_repair.specs.Ended.{Ended}
+use Rattle.psac_repair.specs.Indexed.{Code}
 use Rattle.psac_repair.specs.Mends.{Needs, Tells, TellsPart}
 use Rattle.psac_repair.specs.Outcomes.{end_of}
 use Rattle.psac_repair.specs.Going.{Views, views, Before, After}
+
+-- the world of these parts
+abbrev pub world_of : Bor Crew → Bor Tables → (ground : Ground) → Bor (List TextId) → Bor (List Func) → Bor (List Stmt) → Bor (List Code) → World
+world_of crew tables ground texts funcs main blocks =
+    record { crew = crew; tables = tables; ground = ground; texts = texts; funcs = funcs; main = main; blocks = blocks }
 
 abbrev pub setting_of : World → Setting Handle
 setting_of g = setting_on g.ground g.texts.now
@@ -31,7 +42,7 @@ Inside g = IsCode g.funcs.now g.main.now
 -- each read block of these stands at its number
 abbrev pub IsIndexed : World → Type 0
 IsIndexed g =
-    (s : Stmt) (rest : List Stmt) (line number : ℕ) (items : List ReadItem) (body : List Stmt) → out-Stmt s ≡ Stmt-F.Read line number items body → Inside g (s ∷ rest) → (code : Code) × (slice_get g.blocks.now number ≡ Some code) × (code.items.now ≡ items) × (code.body.now ≡ body)
+    (s : Stmt) (rest : List Stmt) (line number : ℕ) (items : List ReadItem) (body : List Stmt) → out-Stmt s ≡ Stmt-F.Read line number items body → Inside g (s ∷ rest) → (code : Code) × (slice_get g.blocks.now number ≡ Some code) × (code.0.now ≡ items) × (code.1.now ≡ body)
 
 abbrev pub NeedsIn : World → Rec Handle → ValueView → Type 0
 NeedsIn g = Needs (setting_of g) g.funcs.now (Inside g)

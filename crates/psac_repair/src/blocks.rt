@@ -1,8 +1,7 @@
 // The read blocks of a program, each at its number.
 ghost use Rattle.std.specs.Prelude.{◌≡◌, ◌≢◌, ◌<◌, ℕ, AllPairs, IfOk, OnOk, Some, [], ◌∷◌, length, slice_get, flat_map};
 ghost use Rattle.psac_traced.specs.Blocks.{numbers_of, blocks_in};
-ghost use Rattle.psac_repair.specs.declared.world.Code.{Code};
-ghost use Rattle.psac_repair.specs.Indexed.{ArePut, AreIndexed};
+ghost use Rattle.psac_repair.specs.Indexed.{Code, ArePut, AreIndexed};
 
 use crate::world::Code;
 use psac_syntax::{Func, Stmt};
@@ -17,18 +16,12 @@ fn reach<'a>(blocks: &mut Vec<Code<'a>>, number: u32) -> Result<(), AllocError>
     if place < blocks.len() {
         return Ok(());
     }
-    blocks.resize(
-        place + 1,
-        Code {
-            items: &[],
-            body: &[],
-        },
-    )
+    blocks.resize(place + 1, (&[], &[]))
 }
 
 /// Puts a read block at its number, in place of what stands there.
 fn put<'a>(blocks: &mut Vec<Code<'a>>, number: u32, code: Code<'a>) -> Result<(), AllocError>
-    ensures { OnOk result (ArePut ((number, code.entry.items.now, code.entry.body.now) ∷ []) blocks.old.items blocks.new.items) }
+    ensures { OnOk result (ArePut ((number, code.entry.0.now, code.entry.1.now) ∷ []) blocks.old.items blocks.new.items) }
 {
     reach(blocks, number)?;
     blocks[number as usize] = code;
@@ -48,7 +41,7 @@ fn put_blocks<'a>(blocks: &mut Vec<Code<'a>>, stmt: &'a Stmt) -> Result<(), Allo
             ..
         } => {
             let (items, body) = (items.as_slice(), body.as_slice());
-            put(blocks, *block, Code { items, body })?;
+            put(blocks, *block, (items, body))?;
             put_all(blocks, body)
         }
         Stmt::If { yes, no, .. } => {

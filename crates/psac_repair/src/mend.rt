@@ -1,17 +1,18 @@
 //! The repair: the walk down to what is marked, and up again.
 ghost use Rattle.std.specs.Prelude.{◌≡◌, ◌<◌, false};
+ghost use Rattle.std.specs.Thread.{IsSync};
 ghost use Rattle.psac_fork.specs.Whole.{IsOf};
 ghost use Rattle.psac_record.specs.Kept as kept;
 ghost use Rattle.psac_record.specs.Shown.{kept_of};
 ghost use Rattle.psac_repair.specs.Outcomes.{Counts};
-ghost use Rattle.psac_repair.specs.Repairing.{Begins, Left, BeginsPart, LeftPart};
+ghost use Rattle.psac_repair.specs.Repairing.{world_of, Begins, Left, BeginsPart, LeftPart};
 
 use crate::divide::fork_sides;
 use crate::outcome::{Outcome, behind_made, behind_wrote, in_block, in_sides, in_step, untried};
 use crate::redo::redo_block;
 use crate::visit::{asked, cleared, seen_again};
 use crate::world::World;
-use psac_fork::{Gate, Pass};
+use psac_fork::{Gate, Pass, both};
 use psac_record::{Block, Both, Part, Record, Step};
 use std::alloc::Global;
 use std::thread::Threads;
@@ -172,8 +173,8 @@ fn mend_block<Rt: Threads + Sync, G: Gate + Sync>(
     (whole, cleared(world.tables, node, pass))
 }
 
-/// Repairs both sides of a par that is marked, the left one first: each on its part of the pass where that can be forked, and else on
-/// the whole of it.
+/// Repairs both sides of a par that is marked: at once, each on its part of the pass, where that can be forked, and else the left one
+/// first, each on the whole of it.
 #[cycle(mend)]
 fn mend_both<Rt: Threads + Sync, G: Gate + Sync>(
     rt: &Rt,
@@ -237,7 +238,7 @@ fn mend_in_turn<Rt: Threads + Sync, G: Gate + Sync>(
     (whole, cleared(world.tables, node, pass))
 }
 
-/// Repairs both sides, each on its part of the pass.
+/// Repairs both sides at once, each on its part of the pass.
 #[cycle(mend)]
 fn mend_sides<Rt: Threads + Sync, G: Gate + Sync>(
     rt: &Rt,
@@ -260,12 +261,74 @@ fn mend_sides<Rt: Threads + Sync, G: Gate + Sync>(
     let _ = rest;
     let node = place.node;
     let (mine, theirs) = fork_sides(world.tables, pass, &left, &right);
-    let (one, mine) = mend(rt, alloc, world, gate, left, mine);
-    let (two, theirs) = mend(rt, alloc, world, gate, right, theirs);
+    let ((one, mine), (two, theirs)) = mend_at_once(
+        rt, alloc, world, gate, left, mine, right, theirs,
+    );
     let pass = Pass::join(mine, theirs, world.tables);
     let whole = in_sides(place, one, two);
     if !whole.is_done() {
         return (whole, pass);
     }
     (whole, cleared(world.tables, node, pass))
+}
+
+/// Repairs two records at once, each on a pass of its own. A closure that captured the world, which holds references to references,
+/// would tell nothing of its answer, so each captures the world's parts and puts them together again.
+#[cycle(mend)]
+fn mend_at_once<Rt: Threads + Sync, G: Gate + Sync>(
+    rt: &Rt,
+    alloc: Global,
+    world: &World,
+    gate: &G,
+    left: Record,
+    mine: Pass,
+    right: Record,
+    theirs: Pass,
+) -> ((Outcome, Pass), (Outcome, Pass))
+    requires of { IsOf mine world.now.tables.now × IsOf theirs world.now.tables.now }
+    requires left_begins { Begins world.now (kept_of left) mine }
+    requires right_begins { Begins world.now (kept_of right) theirs }
+    ensures of { IsOf result.0.1 world.now.tables.now × IsOf result.1.1 world.now.tables.now }
+    ensures left { Left world.now (kept_of left) mine result.0.1 result.0.0 }
+    ensures right { Left world.now (kept_of right) theirs result.1.1 result.1.0 }
+    ensures left_counts { Counts (kept_of left) result.0.0 }
+    ensures right_counts { Counts (kept_of right) result.1.0 }
+{
+    let (crew, tables, floor, texts) = (world.crew, world.tables, world.ground, world.texts);
+    let (funcs, main, blocks) = (world.funcs, world.main, world.blocks);
+    both(
+        rt,
+        crew,
+        gate,
+        move || -> (Outcome, Pass)
+            requires { IsSync Rt.row × IsSync G.row × IsOf mine tables.now × Begins (world_of crew tables floor texts funcs main blocks) (kept_of left) mine }
+            ensures { IsOf result.1 tables.entry.now × Left (world_of crew.entry tables.entry floor texts.entry funcs.entry main.entry blocks.entry) (kept_of left) mine result.1 result.0 × Counts (kept_of left) result.0 }
+        {
+            let world = World {
+                crew,
+                tables,
+                ground: floor,
+                texts,
+                funcs,
+                main,
+                blocks,
+            };
+            mend(rt, alloc, &world, gate, left, mine)
+        },
+        move || -> (Outcome, Pass)
+            requires { IsSync Rt.row × IsSync G.row × IsOf theirs tables.now × Begins (world_of crew tables floor texts funcs main blocks) (kept_of right) theirs }
+            ensures { IsOf result.1 tables.entry.now × Left (world_of crew.entry tables.entry floor texts.entry funcs.entry main.entry blocks.entry) (kept_of right) theirs result.1 result.0 × Counts (kept_of right) result.0 }
+        {
+            let world = World {
+                crew,
+                tables,
+                ground: floor,
+                texts,
+                funcs,
+                main,
+                blocks,
+            };
+            mend(rt, alloc, &world, gate, right, theirs)
+        },
+    )
 }

@@ -114,7 +114,7 @@ pub fn redo_block<Rt: Threads + Sync, G: Gate + Sync>(
 {
     let _ = rest;
     let code = world.blocks[place.reading.block as usize];
-    let Ok((env, olds)) = begun(alloc, code.items, &place.reading, again.as_slice(), &inner) else {
+    let Ok((env, olds)) = begun(alloc, code.0, &place.reading, again.as_slice(), &inner) else {
         return (
             Outcome::no_memory(Part::Block(place, inner).together()),
             pass,
@@ -133,7 +133,7 @@ pub fn redo_block<Rt: Threads + Sync, G: Gate + Sync>(
         world.funcs,
         &olds,
         place.reading.level,
-        code.body,
+        code.1,
         &env,
         Some(node),
         pass,

@@ -23,3 +23,12 @@ decreases-mend_in_turn g l = 5 * suc (parts (kept_of l.left) + parts (kept_of l.
 
 abbrev pub decreases-mend_sides : goal.decreases-mend_sides
 decreases-mend_sides g l = 5 * suc (parts (kept_of l.left) + parts (kept_of l.right)) + 1
+
+abbrev pub decreases-mend_at_once : goal.decreases-mend_at_once
+decreases-mend_at_once g l = 5 * (parts (kept_of l.left) + parts (kept_of l.right)) + 2
+
+abbrev pub decreases-mend_at_once-both+arg4 : goal.decreases-mend_at_once-both+arg4
+decreases-mend_at_once-both+arg4 g l = 5 * parts (kept_of l.left) + 1
+
+abbrev pub decreases-mend_at_once-both+arg5 : goal.decreases-mend_at_once-both+arg5
+decreases-mend_at_once-both+arg5 g l = 5 * parts (kept_of l.right) + 1

@@ -13,7 +13,7 @@ use Rattle.psac_record.specs.Kept.{R, reads_of, env_of as kept_env_of}
 use Rattle.psac_record.specs.Shown.{kept_of}
 use Rattle.psac_trace.specs.Running.{Begins, Leaves}
 use Rattle.psac_trace.specs.Told.{ended_of}
-use Rattle.psac_repair.specs.declared.world.Code.{Code}
+use Rattle.psac_repair.specs.Indexed.{Code}
 use Rattle.psac_repair.specs.Rebuilt.{Olds}
 use Rattle.psac_repair.specs.Repairing.{setting_of}
 use Rattle.psac_repair.proofs.Redone.{code_at, code_within, block_linked, run_begins, redo_counts, redo_undone, redo_left}
@@ -46,13 +46,13 @@ run_block-ran-requires-after_bounds g c κs within =
     let here : code ≡ at.0 = ap (λ (z : ℕ). slice_index_or g0.blocks.now z c.index-world-deref.result) (ap (λ z. z.reading.block) c.deref.ensures) ∙ get_or_from_slice_get g0.blocks.now b.block at.0 c.index-world-deref.result at.1 in
     let found = at.1 ∙ ap (λ (z : Code). Some z) (sym here) in
     let env = env_of c.deref-6.result.now in
-    let env_is = ap env_of c.deref-6.ensures.value ∙ c.in-Ok.ensures.0 ∙ ap (λ z. with_reads (kept_env_of z.reading.env) code.items.now (reads_of c.as_slice.result.now)) c.deref-2.ensures ∙ ap (λ (z : List Seen). with_reads (kept_env_of b.env) code.items.now (reads_of z)) c.as_slice.ensures in
+    let env_is = ap env_of c.deref-6.ensures.value ∙ c.in-Ok.ensures.0 ∙ ap (λ z. with_reads (kept_env_of z.reading.env) code.0.now (reads_of c.as_slice.result.now)) c.deref-2.ensures ∙ ap (λ (z : List Seen). with_reads (kept_env_of b.env) code.0.now (reads_of z)) c.as_slice.ensures in
     let olds = c.deref-4.result.now in
     let are = subst (λ (xs : List Handle). Olds xs env t) (sym c.deref-4.ensures.value) (subst (λ (es : List Binding). Olds c.in-Ok.olds.items (env_of es) t) (sym c.deref-6.ensures.value) c.in-Ok.ensures.1) in
     let node : c.deref-3.result.now.reading.node ≡ b.node = ap (λ z. z.reading.node) c.deref-3.ensures in
     let off = c.bared-pass.ensures.off b (sym node) in
     let q = c.bared-pass.result in
-    subst (λ (z : Handle). Begins (setting_of g0) g0.funcs.now olds g0.tables.now code.body.now env (Some z) q) (sym node)
+    subst (λ (z : Handle). Begins (setting_of g0) g0.funcs.now olds g0.tables.now code.1.now env (Some z) q) (sym node)
     (run_begins g0 need.1 need.2 b t rest p need.3 c.args.again c.requires.changed need.0 code found env env_is olds are q c.bared-pass.ensures.of off)
 
 pub returns-clause-left : goal.returns-clause-left
@@ -68,7 +68,7 @@ returns-clause-left g c =
     let here : code ≡ at.0 = ap (λ (z : ℕ). slice_index_or g0.blocks.now z c.index-world-deref.result) (ap (λ z. z.reading.block) c.deref.ensures) ∙ get_or_from_slice_get g0.blocks.now b.block at.0 c.index-world-deref.result at.1 in
     let found = at.1 ∙ ap (λ (z : Code). Some z) (sym here) in
     let env = env_of c.deref-6.result.now in
-    let env_is = ap env_of c.deref-6.ensures.value ∙ c.in-Ok.ensures.0 ∙ ap (λ z. with_reads (kept_env_of z.reading.env) code.items.now (reads_of c.as_slice.result.now)) c.deref-2.ensures ∙ ap (λ (z : List Seen). with_reads (kept_env_of b.env) code.items.now (reads_of z)) c.as_slice.ensures in
+    let env_is = ap env_of c.deref-6.ensures.value ∙ c.in-Ok.ensures.0 ∙ ap (λ z. with_reads (kept_env_of z.reading.env) code.0.now (reads_of c.as_slice.result.now)) c.deref-2.ensures ∙ ap (λ (z : List Seen). with_reads (kept_env_of b.env) code.0.now (reads_of z)) c.as_slice.ensures in
     let olds = c.deref-4.result.now in
     let are = subst (λ (xs : List Handle). Olds xs env t) (sym c.deref-4.ensures.value) (subst (λ (es : List Binding). Olds c.in-Ok.olds.items (env_of es) t) (sym c.deref-6.ensures.value) c.in-Ok.ensures.1) in
     let node : c.deref-3.result.now.reading.node ≡ b.node = ap (λ z. z.reading.node) c.deref-3.ensures in
@@ -79,8 +79,8 @@ returns-clause-left g c =
     let k = c.run_block-ran.ensures in
     let w = setting_of g0 in
     let level : c.deref-5.result.now.reading.level ≡ b.level = ap (λ z. z.reading.level) c.deref-5.ensures in
-    let left = subst (λ (z : Handle). Leaves w (traced w g0.funcs.now (levels - b.level)) (cut_short w g0.funcs.now (levels - b.level)) olds g0.tables.now code.body.now env (Some z) q n (ended_of k.0 ran)) node
-    (subst (λ (z : ℕ). Leaves w (traced w g0.funcs.now (levels - z)) (cut_short w g0.funcs.now (levels - z)) olds g0.tables.now code.body.now env (Some c.deref-3.result.now.reading.node) q n (ended_of k.0 ran)) level k.1) in
+    let left = subst (λ (z : Handle). Leaves w (traced w g0.funcs.now (levels - b.level)) (cut_short w g0.funcs.now (levels - b.level)) olds g0.tables.now code.1.now env (Some z) q n (ended_of k.0 ran)) node
+    (subst (λ (z : ℕ). Leaves w (traced w g0.funcs.now (levels - z)) (cut_short w g0.funcs.now (levels - z)) olds g0.tables.now code.1.now env (Some c.deref-3.result.now.reading.node) q n (ended_of k.0 ran)) level k.1) in
     redo_left g0 b t rest p c.args.again c.requires.changed need.0 code found env env_is olds are q c.bared-pass.ensures.of off n ran c.replaced.result c.replaced.ensures k.0 left
 
 pub returns-clause-counts : goal.returns-clause-counts
