@@ -59,7 +59,7 @@ pair_wired r m us above n l k w =
     record { linked = record { live = w.linked.live; once = w.linked.once }; once = w.once; walk = w.walk; readers = w.readers; led = w.led; above_led = w.above_led; fits = w.fits }
 
 pub pair_ordered : (n : Handle) (l k : Kept) → Ordered (P n l k) → Ordered (S n l k)
-pair_ordered n l k o = (o.0, o.3, o.4)
+pair_ordered n l k o = (o.0, o.3, o.4, o.2)
 
 module _ (r : ReadersView) (m : MarksView) (us : List ℕ) (above : Option Handle) (n : Handle) (l k : Kept) (rooted : Rooted m) (p : Planted m us above (P n l k)) (w : Wired r m us above (P n l k)) (o : Ordered (P n l k)) where
   abbrev Sets : ℕ → Bool
@@ -161,10 +161,10 @@ module _ (r : ReadersView) (m : MarksView) (us : List ℕ) (above : Option Handl
       (λ (y : (z : NodeView) × Member z m.shared × (shared_place z ≡ e)). (y.0, member_left y.0 m.shared t y.1, y.2))
       (place_cases m e i)
 
-  left_place : (e : Place) → Member e (places m) → Member e.node.slot beyond → Member e (places LM)
+  pub left_place : (e : Place) → Member e (places m) → Member e.node.slot beyond → Member e (places LM)
   left_place e i j = let y = place_told e i j in subst (λ z. Member z (places LM)) y.2 (place_shared LM y.0 y.1)
 
-  right_place : (e : Place) → Member e (places m) → Member e.node.slot beyond → Member e (places RM)
+  pub right_place : (e : Place) → Member e (places m) → Member e.node.slot beyond → Member e (places RM)
   right_place e i j = let y = place_told e i j in subst (λ z. Member z (places RM)) y.2 (place_shared RM y.0 y.1)
 
   abbrev Over : ℕ → Bool

@@ -1,4 +1,5 @@
 pub mod Fills
+pub mod Crossing
 pub mod Along
 pub mod Walked
 pub mod Before
@@ -32,6 +33,9 @@ pub mod Watching
 pub mod Waking
 pub mod Awaking
 pub mod Wakes
+pub mod Beneath
+pub mod Founding
+pub mod Founds
 pub mod Readying
 pub mod Rooting
 pub mod Fitted
@@ -50,7 +54,6 @@ pub mod Starting
 pub mod Gathering
 pub mod Retold
 pub mod Redone
-pub mod Crossing
 pub mod Whole
 pub mod Walking
 pub mod Pairing

@@ -36,7 +36,9 @@ use Rattle.psac_repair.specs.Divided.{writes_slot}
 use Rattle.psac_repair.specs.Rewired.{Ordered}
 use Rattle.psac_repair.specs.Watched.{Watched}
 use Rattle.psac_repair.proofs.Fills.{fills_more, fills_second, scope_left, scope_right, scope_second, targets_apart, target_left, target_right}
-use Rattle.psac_repair.proofs.Before.{Always, Left, AtPair, at_made, at_wrote, at_inner, at_reader, at_pair, no_pair, no_block, part_target, filled, seq_scope, seq_fills, rest_unmade, wrote_fills}
+use Rattle.psac_repair.proofs.Before.{Always, Left, AtPair, at_made, at_wrote, at_inner, at_reader, at_pair, no_pair}
+use Rattle.psac_repair.proofs.Before.{no_block, part_target, rest_target, filled, seq_scope, seq_fills, rest_unmade}
+use Rattle.psac_repair.proofs.Before.{wrote_fills}
 use Rattle.psac_repair.proofs.Steps.{none_of, left_of_stood}
 use Rattle.psac_repair.proofs.Tells.{each_in}
 use Rattle.psac_repair.proofs.Forked.{Touches, slot_touch, touched_owned}
@@ -66,7 +68,8 @@ abbrev Sorted : Rec Handle → Type 0
 Sorted E = Unit {0}
 Sorted (A m r) = Sorted r
 Sorted (W m v r) = Sorted r
-Sorted (S t r) = ((m : Handle) → ReadsOf t m → Touches r m → ⊥) × Sorted t × Sorted r
+Sorted (S t r) = ((m : Handle) → ReadsOf t m → Touches r m → ⊥) × Sorted t × Sorted r ×
+    ((m : Handle) → Touches t m → Touches r m → ⊥)
 Sorted (P l k) = ((m : Handle) → ReadsOf l m → Touches k m → ⊥) × ((m : Handle) → ReadsOf k m → Touches l m → ⊥) × ((m : Handle) → Touches l m → Touches k m → ⊥) × Sorted l × Sorted k
 Sorted (R room block env reads t) = ((m : Handle) → ReadOf reads m → Touches t m → ⊥) × Sorted t
 
@@ -169,10 +172,25 @@ module _ (w : Setting Handle) (funcs : List Func) (Q : List Stmt → Type 0) (cl
     pub scope : Scope w mid end.unwritten here (writes t ++ other)
     pub wider : Wider (writes t ++ other) over
     pub unmade : (m : Handle) → Makes r m → held (writes t ++ other) m ≡ None
+    pub targets : (m : Handle) → Target mid end.unwritten here m → Target st end.unwritten env m
     pub joins : Fills Always (Makes r) mid end.unwritten here (writes t ++ other) (writes r) → Fills Always (Makes (S t r)) st end.unwritten env other (writes (S t r))
 
   abbrev Parts : Rec Handle → Rec Handle → Type 0
   Parts t r = (room : ℕ) (body : List Stmt) (env : Env Handle) (heap other : Heap) (st end : Standing) → IsApart (S t r) → Here (S t r) room body env heap st end → Scope w st end.unwritten env other → Wider other heap → ((m : Handle) → Makes (S t r) m → held other m ≡ None) → Parted t r room body env heap other st end
+
+  -- what a part touched the rest behind it doesn't
+  behind_apart : (t r : Rec Handle) (st end mid : Standing) (env here : Env Handle) (over : Heap) → IsApart (S t r) →
+      ((m : Handle) → Makes (S t r) m → Target st end.unwritten env m → ⊥) →
+      ((m : Handle) → Target mid end.unwritten here m → Target st end.unwritten env m) → Fills Always
+      (Makes r) mid end.unwritten here over (writes r) → ((m : Handle) → In (writes t) m → In over m) →
+      ((m : Handle) → Touches r m → held over m ≡ None) → (m : Handle) → Touches t m → Touches r m → ⊥
+  behind_apart t r st end mid env here over apart beside targets fills has none m (inr i) j = in_none over m (has m i) (none m j)
+  behind_apart t r st end mid env here over apart beside targets fills has none m (inl i) (inl j) = apart.2 m i j
+  behind_apart t r st end mid env here over apart beside targets fills has none m (inl i) (inr j) =
+      elim (fills.spares m tt j) [
+        | inl g ↦ beside m (inl i) (targets m g)
+        | inr k ↦ apart.2 m i k
+      ]
 
   over_step : (t r : Rec Handle) → Parts t r → Overs r → Overs (S t r)
   over_step t r part go_on room body env heap other st end apart l sc wi unmade =
@@ -185,6 +203,9 @@ module _ (w : Setting Handle) (funcs : List Func) (Q : List Stmt → Type 0) (cl
           λ m i j. in_none (writes t ++ other) m (reads_within other t p.reads m i) (free r p.mid end p.here (writes t ++ other) x.fills p.scope p.unmade m j),
           p.sorted,
           x.sorted,
+          behind_apart t r st end p.mid env p.here (writes t ++ other) apart l.beside p.targets x.fills
+              (λ m i. in_front (writes t) other m i)
+              (free r p.mid end p.here (writes t ++ other) x.fills p.scope p.unmade),
         );
       }
 
@@ -207,6 +228,7 @@ module _ (w : Setting Handle) (funcs : List Func) (Q : List Stmt → Type 0) (cl
         scope = seq_scope w funcs Q closed go reading st end env o.now o.mid o.here o.left o.seq Always (Makes t) other (writes t) sc (λ z g. tt) new (λ m i g. l.beside m (inl i) g);
         wider = within_front (writes t) other heap wi;
         unmade = rest_unmade w funcs Q closed go reading st end env o.now o.mid o.here o.left o.seq Always (Makes t) (Makes r) other (writes t) (λ m i. tt) new (λ m i. unmade m (inr i)) (λ m i. l.beside m (inr i)) apart.2;
+        targets = rest_target w funcs Q closed go reading st end env o.now o.mid o.here o.left o.seq;
         joins = λ y. seq_fills w funcs Q closed go reading st end env o.now o.mid o.here o.left o.seq Always Always (Makes t) (Makes r) other (writes t) (writes r) (λ z h. h) new y;
       }
 
@@ -241,6 +263,7 @@ module _ (w : Setting Handle) (funcs : List Func) (Q : List Stmt → Type 0) (cl
         scope = seq_scope w funcs Q closed go reading st end env o.now s.mid saved s.left o.seq Always (Makes t) other (writes t) sc (λ z g. tt) new (λ m i g. l.beside m (inl i) g);
         wider = within_front (writes t) other heap wi;
         unmade = rest_unmade w funcs Q closed go reading st end env o.now s.mid saved s.left o.seq Always (Makes t) (Makes r) other (writes t) (λ m i. tt) new (λ m i. unmade m (inr i)) (λ m i. l.beside m (inr i)) apart.2;
+        targets = rest_target w funcs Q closed go reading st end env o.now s.mid saved s.left o.seq;
         joins = λ y. seq_fills w funcs Q closed go reading st end env o.now s.mid saved s.left o.seq Always Always (Makes t) (Makes r) other (writes t) (writes r) (λ z h. h) new y;
       }
 
@@ -267,6 +290,7 @@ module _ (w : Setting Handle) (funcs : List Func) (Q : List Stmt → Type 0) (cl
         scope = seq_scope w funcs Q closed go reading st end env o.now o.mid o.here (in_both o.parts.one o.parts.two) o.seq Always (λ m. Makes l m ⊎ Makes k m) other (writes k ++ writes l) sc (λ h g. tt) new (λ m i g. lf.beside m (inl i) g);
         wider = within_front (writes k ++ writes l) other heap wi;
         unmade = rest_unmade w funcs Q closed go reading st end env o.now o.mid o.here (in_both o.parts.one o.parts.two) o.seq Always (λ m. Makes l m ⊎ Makes k m) (Makes r) other (writes k ++ writes l) (λ m i. tt) new (λ m i. unmade m (inr i)) (λ m i. lf.beside m (inr i)) apart.2;
+        targets = rest_target w funcs Q closed go reading st end env o.now o.mid o.here (in_both o.parts.one o.parts.two) o.seq;
         joins = λ q. seq_fills w funcs Q closed go reading st end env o.now o.mid o.here (in_both o.parts.one o.parts.two) o.seq Always Always (λ m. Makes l m ⊎ Makes k m) (Makes r) other (writes k ++ writes l) (writes r) (λ h i. i) new q;
       }
     where
@@ -421,6 +445,7 @@ module _ (v : ValueView) (m : MarksView) (tidy : Tidy v) where
     λ x i. unread_slot k own.1 x (link_known v m t h.0 x i) (s.0 x.of (link_read t x i)),
     ordered_by t own.0 h.0 s.1,
     ordered_by k own.1 h.1 s.2,
+    sides_slots t k own.0 own.1 s.3,
   )
   ordered_by (tree.P n l k) own h s = (
     λ x i. unread_slot k own.1 x (link_known v m l h.0 x i) (s.0 x.of (link_read l x i)),

@@ -11,7 +11,7 @@ use Rattle.psac_traced.specs.Rec.{Rec}
 use Rattle.psac_traced.specs.Holds.{EachOf}
 use Rattle.psac_record.specs.declared.parts.Reading.{Reading}
 use Rattle.psac_record.specs.declared.parts.Seen.{Seen}
-use Rattle.psac_record.specs.Kept.{Kept, S, P, R, bare, reads_of}
+use Rattle.psac_record.specs.Kept.{Kept, P, R, bare, reads_of}
 use Rattle.psac_record.specs.Shown.{kept_of, rec_of}
 use Rattle.psac_repair.specs.declared.world.World.{World}
 use Rattle.psac_repair.specs.declared.outcome.Outcome.{Outcome}

@@ -1,12 +1,12 @@
 -- The read blocks of a program in a table, each at its number.
-use Rattle.std.specs.Borrow.{Bor}
 use Rattle.std.specs.Prelude.{◌≡◌, ◌≢◌, ◌⊎◌, List, [], ◌∷◌, Some, Contains, slice_get}
+use Rattle.std.specs.Borrow.{Bor}
 use Rattle.psac_syntax.specs.declared.program.Func.{Func}
-use Rattle.psac_traced.specs.Blocks.{Block, blocks_of}
-use Rattle.psac_syntax.specs.declared.program.Stmt.{Stmt}
 use Rattle.psac_syntax.specs.declared.program.ReadItem.{ReadItem}
+use Rattle.psac_syntax.specs.declared.program.Stmt.{Stmt}
+use Rattle.psac_traced.specs.Blocks.{Block, blocks_of}
 
--- a read block of the program: what it reads, and its body
+-- a read block of the table: what it reads, and its body
 abbrev pub Code : Type 0
 Code = Bor (List ReadItem) × Bor (List Stmt)
 

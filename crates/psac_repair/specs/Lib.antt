@@ -17,6 +17,8 @@ pub mod LinkLaws
 pub mod WatchLaws
 pub mod FitLaws
 pub mod Counted
+pub mod Founded
+pub mod FoundLaws
 pub mod Exchanged
 pub mod Unshared
 pub mod Taking
@@ -24,7 +26,7 @@ pub mod Outcomes
 pub mod Changing
 pub mod Going
 pub mod WalkLaws
+pub mod Indexed
 pub mod Repairing
 pub mod Rebuilt
-pub mod Indexed
 pub mod Whole

@@ -1,12 +1,12 @@
 -- What the calls of a repair need and leave.
-use Rattle.std.specs.Borrow.{Bor}
 use Rattle.std.specs.Prelude.{◌≡◌, ℕ, List, ◌∷◌, Option, Some, slice_get}
+use Rattle.std.specs.Borrow.{Bor}
 use Rattle.psac_ops.specs.declared.plain.Handle.{Handle}
 use Rattle.psac_ops.specs.declared.plain.TextId.{TextId}
-use Rattle.psac_syntax.specs.declared.program.Func.{Func}
 use Rattle.psac_syntax.specs.declared.program.Stmt.{Stmt, out-Stmt}
 use Rattle.psac_syntax.specs.declared.program.Stmt.TheOpen.{Stmt-F}
 use Rattle.psac_syntax.specs.declared.program.ReadItem.{ReadItem}
+use Rattle.psac_syntax.specs.declared.program.Func.{Func}
 use Rattle.psac_values.specs.declared.view.ValueView.{ValueView}
 use Rattle.psac_fork.specs.declared.crew.Crew.{Crew}
 use Rattle.psac_fork.specs.declared.tables.Tables.{Tables}

@@ -29,12 +29,12 @@ reads_in b = map (stands b.node) b.reads
 abbrev pub Unread : List Stands → Kept → Type 0
 Unread ss k = (s : Stands) → Member s ss → writes_slot (bare k) s.of.slot ≡ false
 
--- nothing is read before it is written, or beside what writes it
+-- nothing is read before it is written, or beside what writes it; and no two parts of a record made or wrote the same
 abbrev pub Ordered : Kept → Type 0
 Ordered E = Unit {0}
 Ordered (A m r) = Ordered r
 Ordered (W m v r) = Ordered r
-Ordered (S n t r) = Unread (links_of t) r × Ordered t × Ordered r
+Ordered (S n t r) = Unread (links_of t) r × Ordered t × Ordered r × ((s : ℕ) → writes_slot (bare t) s ≡ true → writes_slot (bare r) s ≡ false)
 Ordered (P n l r) = Unread (links_of l) r × Unread (links_of r) l × ((s : ℕ) → writes_slot (bare l) s ≡ true → writes_slot (bare r) s ≡ false) × Ordered l × Ordered r
 Ordered (R b t) = Unread (reads_in b) t × Ordered t
 

@@ -1,7 +1,7 @@
 // The read blocks of a program, each at its number.
 ghost use Rattle.std.specs.Prelude.{◌≡◌, ◌≢◌, ◌<◌, ℕ, AllPairs, IfOk, OnOk, Some, [], ◌∷◌, length, slice_get, flat_map};
 ghost use Rattle.psac_traced.specs.Blocks.{numbers_of, blocks_in};
-ghost use Rattle.psac_repair.specs.Indexed.{Code, ArePut, AreIndexed};
+ghost use Rattle.psac_repair.specs.Indexed.{Code as Indexed, ArePut, AreIndexed};
 
 use crate::world::Code;
 use psac_syntax::{Func, Stmt};
@@ -10,7 +10,7 @@ use std::alloc::{AllocError, Global};
 /// Goes on with empty blocks until one has this number.
 fn reach<'a>(blocks: &mut Vec<Code<'a>>, number: u32) -> Result<(), AllocError>
     ensures reached { OnOk result (number < length blocks.new.items) }
-    ensures kept { OnOk result ((n : ℕ) (c : Code) → slice_get blocks.old.items n ≡ Some c → slice_get blocks.new.items n ≡ Some c) }
+    ensures kept { OnOk result ((n : ℕ) (c : Indexed) → slice_get blocks.old.items n ≡ Some c → slice_get blocks.new.items n ≡ Some c) }
 {
     let place = number as usize;
     if place < blocks.len() {

@@ -7,6 +7,7 @@ pub mod counts;
 pub mod divide;
 pub mod entry;
 pub mod fits;
+pub mod founded;
 pub mod laws;
 pub mod links;
 pub mod mend;

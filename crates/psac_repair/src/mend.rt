@@ -5,7 +5,7 @@ ghost use Rattle.psac_fork.specs.Whole.{IsOf};
 ghost use Rattle.psac_record.specs.Kept as kept;
 ghost use Rattle.psac_record.specs.Shown.{kept_of};
 ghost use Rattle.psac_repair.specs.Outcomes.{Counts};
-ghost use Rattle.psac_repair.specs.Repairing.{world_of, Begins, Left, BeginsPart, LeftPart};
+ghost use Rattle.psac_repair.specs.Repairing.{Begins, Left, BeginsPart, LeftPart, world_of};
 
 use crate::divide::fork_sides;
 use crate::outcome::{Outcome, behind_made, behind_wrote, in_block, in_sides, in_step, untried};
@@ -174,7 +174,7 @@ fn mend_block<Rt: Threads + Sync, G: Gate + Sync>(
 }
 
 /// Repairs both sides of a par that is marked: at once, each on its part of the pass, where that can be forked, and else the left one
-/// first, each on the whole of it.
+/// first, both on the whole of it.
 #[cycle(mend)]
 fn mend_both<Rt: Threads + Sync, G: Gate + Sync>(
     rt: &Rt,
@@ -262,7 +262,7 @@ fn mend_sides<Rt: Threads + Sync, G: Gate + Sync>(
     let node = place.node;
     let (mine, theirs) = fork_sides(world.tables, pass, &left, &right);
     let ((one, mine), (two, theirs)) = mend_at_once(
-        rt, alloc, world, gate, left, mine, right, theirs,
+        rt, alloc, world, gate, left, right, mine, theirs,
     );
     let pass = Pass::join(mine, theirs, world.tables);
     let whole = in_sides(place, one, two);
@@ -272,8 +272,8 @@ fn mend_sides<Rt: Threads + Sync, G: Gate + Sync>(
     (whole, cleared(world.tables, node, pass))
 }
 
-/// Repairs two records at once, each on a pass of its own. A closure that captured the world, which holds references to references,
-/// would tell nothing of its answer, so each captures the world's parts and puts them together again.
+/// Repairs these two records, at once where the crew has a permit. Each job makes a world of its own from the parts: of a job that
+/// captures a world its caller learns nothing.
 #[cycle(mend)]
 fn mend_at_once<Rt: Threads + Sync, G: Gate + Sync>(
     rt: &Rt,
@@ -281,21 +281,24 @@ fn mend_at_once<Rt: Threads + Sync, G: Gate + Sync>(
     world: &World,
     gate: &G,
     left: Record,
-    mine: Pass,
     right: Record,
+    mine: Pass,
     theirs: Pass,
 ) -> ((Outcome, Pass), (Outcome, Pass))
     requires of { IsOf mine world.now.tables.now × IsOf theirs world.now.tables.now }
-    requires left_begins { Begins world.now (kept_of left) mine }
-    requires right_begins { Begins world.now (kept_of right) theirs }
+    requires begins { Begins world.now (kept_of left) mine × Begins world.now (kept_of right) theirs }
     ensures of { IsOf result.0.1 world.now.tables.now × IsOf result.1.1 world.now.tables.now }
     ensures left { Left world.now (kept_of left) mine result.0.1 result.0.0 }
     ensures right { Left world.now (kept_of right) theirs result.1.1 result.1.0 }
-    ensures left_counts { Counts (kept_of left) result.0.0 }
-    ensures right_counts { Counts (kept_of right) result.1.0 }
+    ensures counts { Counts (kept_of left) result.0.0 × Counts (kept_of right) result.1.0 }
 {
-    let (crew, tables, floor, texts) = (world.crew, world.tables, world.ground, world.texts);
-    let (funcs, main, blocks) = (world.funcs, world.main, world.blocks);
+    let crew = world.crew;
+    let tables = world.tables;
+    let floor = world.ground;
+    let texts = world.texts;
+    let funcs = world.funcs;
+    let main = world.main;
+    let blocks = world.blocks;
     both(
         rt,
         crew,

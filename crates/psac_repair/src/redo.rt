@@ -114,7 +114,8 @@ pub fn redo_block<Rt: Threads + Sync, G: Gate + Sync>(
 {
     let _ = rest;
     let code = world.blocks[place.reading.block as usize];
-    let Ok((env, olds)) = begun(alloc, code.0, &place.reading, again.as_slice(), &inner) else {
+    let (items, body) = code;
+    let Ok((env, olds)) = begun(alloc, items, &place.reading, again.as_slice(), &inner) else {
         return (
             Outcome::no_memory(Part::Block(place, inner).together()),
             pass,
@@ -133,7 +134,7 @@ pub fn redo_block<Rt: Threads + Sync, G: Gate + Sync>(
         world.funcs,
         &olds,
         place.reading.level,
-        code.1,
+        body,
         &env,
         Some(node),
         pass,

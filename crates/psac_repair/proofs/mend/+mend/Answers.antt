@@ -1,4 +1,4 @@
-use Rattle.std.proofs.Common.{◌≡◌, true, ap, sym, ◌∙◌, subst, [], ◌∷◌, IfOk, IfSome}
+use Rattle.std.proofs.Common.{◌≡◌, ap, sym, ◌∙◌, subst, [], ◌∷◌, IfOk, IfSome}
 use Rattle.psac_ops.specs.declared.plain.Handle.{Handle}
 use Rattle.psac_record.specs.Kept as kept
 use Rattle.psac_record.specs.Kept.{S, P, R, bare}
@@ -19,9 +19,9 @@ use Rattle.psac_repair.proofs.Walking.{part_begins_asked, part_left_asked, part_
 use Rattle.psac_repair.proofs.Pairing.{seen_present, block_known, changed_looked, inner_begins, block_undone, block_owned, block_bared, block_done}
 use Rattle.psac_repair.proofs.Pairing.{left_begins, turns_out, right_begins, turns_undone, turns_owned, turns_bared, turns_done, mine_begins, theirs_begins, sides_join, sides_undone, sides_owned, sides_bared, sides_done}
 use Rattle.psac_repair.proofs.Redone.{redo_undone}
-use Rattle.psac_repair.proofs.Crossing.{outcome_send}
 use denote.Param.Send.{sendable}
 use Rattle.psac_fork.proofs.tables.Pass.TheSendSync as pass
+use Rattle.psac_repair.proofs.Crossing.{outcome_send}
 use Rattle.psac_repair.proofs.mend.+mend.Goals as goal
 
 -- records of statements
@@ -575,8 +575,8 @@ mend_sides-fork_sides-mine-requires-clause-rooted g t c = c.requires.begins.3.ro
 pub mend_sides-fork_sides-mine-requires-clause-planted : goal.mend_sides-fork_sides-mine-requires-clause-planted
 mend_sides-fork_sides-mine-requires-clause-planted g t c = let b = c.requires.begins in (b.1, b.2, c.args.place.value.node, b.3.planted)
 
-pub mend_sides-mend_at_once-one-requires-clause-left_begins : goal.mend_sides-mend_at_once-one-requires-clause-left_begins
-mend_sides-mend_at_once-one-requires-clause-left_begins g t c κs within =
+pub mend_sides-mend_at_once-one-requires-clause-begins : goal.mend_sides-mend_at_once-one-requires-clause-begins
+mend_sides-mend_at_once-one-requires-clause-begins g t c κs within =
     let n = c.args.place.value.node in
     let l = kept_of c.args.left in
     let k = kept_of c.args.right in
@@ -588,22 +588,7 @@ mend_sides-mend_at_once-one-requires-clause-left_begins g t c κs within =
     let f = c.fork_sides-mine.ensures in
     let mine = same_views (views a) (left_side l k (views p)) f.left_values f.left_readers f.left_marks in
     let theirs = same_views (views d) (right_side l k (views p)) f.right_values f.right_readers f.right_marks in
-    mine_begins w n l k rest p a d mine theirs f.left_room f.right_room c.requires.begins
-
-pub mend_sides-mend_at_once-one-requires-clause-right_begins : goal.mend_sides-mend_at_once-one-requires-clause-right_begins
-mend_sides-mend_at_once-one-requires-clause-right_begins g t c κs within =
-    let n = c.args.place.value.node in
-    let l = kept_of c.args.left in
-    let k = kept_of c.args.right in
-    let rest = kept_of c.args.rest.now in
-    let w = c.args.world.now in
-    let p = c.args.pass in
-    let a = c.fork_sides-mine.result.0 in
-    let d = c.fork_sides-mine.result.1 in
-    let f = c.fork_sides-mine.ensures in
-    let mine = same_views (views a) (left_side l k (views p)) f.left_values f.left_readers f.left_marks in
-    let theirs = same_views (views d) (right_side l k (views p)) f.right_values f.right_readers f.right_marks in
-    theirs_begins w n l k rest p a d mine theirs f.left_room f.right_room c.requires.begins
+    (mine_begins w n l k rest p a d mine theirs f.left_room f.right_room c.requires.begins, theirs_begins w n l k rest p a d mine theirs f.left_room f.right_room c.requires.begins)
 
 pub mend_sides-join-pass-requires-clause-of : goal.mend_sides-join-pass-requires-clause-of
 mend_sides-join-pass-requires-clause-of g t c =
@@ -622,8 +607,10 @@ mend_sides-join-pass-requires-clause-sides g t c =
     let f = c.fork_sides-mine.ensures in
     let mine = same_views (views a) (left_side l k (views p)) f.left_values f.left_readers f.left_marks in
     let theirs = same_views (views d) (right_side l k (views p)) f.right_values f.right_readers f.right_marks in
-    let both = c.mend_at_once-one in
-    (p.values.knows.claims.branch, sides_join w n l k rest p a d mine theirs f.left_room f.right_room both.result.0.1 both.result.1.1 both.result.0.0 both.result.1.0 both.ensures.left both.ensures.right c.requires.begins)
+    let sides = c.mend_at_once-one in
+    let one = sides.result.0 in
+    let two = sides.result.1 in
+    (p.values.knows.claims.branch, sides_join w n l k rest p a d mine theirs f.left_room f.right_room one.1 two.1 one.0 two.0 sides.ensures.left sides.ensures.right c.requires.begins)
 
 pub mend_sides-returns-then-not-is_done-clause-left : goal.mend_sides-returns-then-not-is_done-clause-left
 mend_sides-returns-then-not-is_done-clause-left g t c =
@@ -638,12 +625,14 @@ mend_sides-returns-then-not-is_done-clause-left g t c =
     let f = c.fork_sides-mine.ensures in
     let mine = same_views (views a) (left_side l k (views p)) f.left_values f.left_readers f.left_marks in
     let theirs = same_views (views d) (right_side l k (views p)) f.right_values f.right_readers f.right_marks in
-    let both = c.mend_at_once-one in
+    let sides = c.mend_at_once-one in
+    let one = sides.result.0 in
+    let two = sides.result.1 in
     let j = c.join-pass.result in
     let e = c.join-pass.ensures in
-    let joins : Joins (views both.result.0.1) (views both.result.1.1) (views j) = record { values = e.values; united = e.united; readers = e.readers; once = e.once; marks = e.marks; united_marks = e.united_marks; dropped = e.dropped; kept = e.kept } in
+    let joins : Joins (views one.1) (views two.1) (views j) = record { values = e.values; united = e.united; readers = e.readers; once = e.once; marks = e.marks; united_marks = e.united_marks; dropped = e.dropped; kept = e.kept } in
     let o = c.in_sides-whole in
-    sides_undone w n l k rest p a d mine theirs f.left_room f.right_room both.result.0.1 both.result.1.1 both.result.0.0 both.result.1.0 both.ensures.left both.ensures.right j o.result o.ensures.end joins (sym c.if-not-is_done.ensures)
+    sides_undone w n l k rest p a d mine theirs f.left_room f.right_room one.1 two.1 one.0 two.0 sides.ensures.left sides.ensures.right j o.result o.ensures.end joins (sym c.if-not-is_done.ensures)
 
 pub mend_sides-cleared-requires-clause-own : goal.mend_sides-cleared-requires-clause-own
 mend_sides-cleared-requires-clause-own g t c =
@@ -658,12 +647,14 @@ mend_sides-cleared-requires-clause-own g t c =
     let f = c.fork_sides-mine.ensures in
     let mine = same_views (views a) (left_side l k (views p)) f.left_values f.left_readers f.left_marks in
     let theirs = same_views (views d) (right_side l k (views p)) f.right_values f.right_readers f.right_marks in
-    let both = c.mend_at_once-one in
+    let sides = c.mend_at_once-one in
+    let one = sides.result.0 in
+    let two = sides.result.1 in
     let j = c.join-pass.result in
     let e = c.join-pass.ensures in
-    let joins : Joins (views both.result.0.1) (views both.result.1.1) (views j) = record { values = e.values; united = e.united; readers = e.readers; once = e.once; marks = e.marks; united_marks = e.united_marks; dropped = e.dropped; kept = e.kept } in
+    let joins : Joins (views one.1) (views two.1) (views j) = record { values = e.values; united = e.united; readers = e.readers; once = e.once; marks = e.marks; united_marks = e.united_marks; dropped = e.dropped; kept = e.kept } in
     let o = c.in_sides-whole in
-    subst (λ (z : Handle). Owns j.marks.knows z) (sym (ap (λ z. z.node) c.deref.ensures)) (sides_owned w n l k rest p a d mine theirs f.left_room f.right_room both.result.0.1 both.result.1.1 both.result.0.0 both.result.1.0 both.ensures.left both.ensures.right j o.result o.ensures.end joins (sym c.if-not-is_done.ensures) c.requires.begins)
+    subst (λ (z : Handle). Owns j.marks.knows z) (sym (ap (λ z. z.node) c.deref.ensures)) (sides_owned w n l k rest p a d mine theirs f.left_room f.right_room one.1 two.1 one.0 two.0 sides.ensures.left sides.ensures.right j o.result o.ensures.end joins (sym c.if-not-is_done.ensures) c.requires.begins)
 
 pub mend_sides-cleared-requires-clause-bare : goal.mend_sides-cleared-requires-clause-bare
 mend_sides-cleared-requires-clause-bare g t c =
@@ -678,12 +669,14 @@ mend_sides-cleared-requires-clause-bare g t c =
     let f = c.fork_sides-mine.ensures in
     let mine = same_views (views a) (left_side l k (views p)) f.left_values f.left_readers f.left_marks in
     let theirs = same_views (views d) (right_side l k (views p)) f.right_values f.right_readers f.right_marks in
-    let both = c.mend_at_once-one in
+    let sides = c.mend_at_once-one in
+    let one = sides.result.0 in
+    let two = sides.result.1 in
     let j = c.join-pass.result in
     let e = c.join-pass.ensures in
-    let joins : Joins (views both.result.0.1) (views both.result.1.1) (views j) = record { values = e.values; united = e.united; readers = e.readers; once = e.once; marks = e.marks; united_marks = e.united_marks; dropped = e.dropped; kept = e.kept } in
+    let joins : Joins (views one.1) (views two.1) (views j) = record { values = e.values; united = e.united; readers = e.readers; once = e.once; marks = e.marks; united_marks = e.united_marks; dropped = e.dropped; kept = e.kept } in
     let o = c.in_sides-whole in
-    subst (λ (z : Handle). Bare j.marks.knows z.slot) (sym (ap (λ z. z.node) c.deref.ensures)) (sides_bared w n l k rest p a d mine theirs f.left_room f.right_room both.result.0.1 both.result.1.1 both.result.0.0 both.result.1.0 both.ensures.left both.ensures.right j o.result o.ensures.end joins (sym c.if-not-is_done.ensures) c.requires.begins)
+    subst (λ (z : Handle). Bare j.marks.knows z.slot) (sym (ap (λ z. z.node) c.deref.ensures)) (sides_bared w n l k rest p a d mine theirs f.left_room f.right_room one.1 two.1 one.0 two.0 sides.ensures.left sides.ensures.right j o.result o.ensures.end joins (sym c.if-not-is_done.ensures) c.requires.begins)
 
 pub mend_sides-returns-clause-left : goal.mend_sides-returns-clause-left
 mend_sides-returns-clause-left g t c =
@@ -698,27 +691,27 @@ mend_sides-returns-clause-left g t c =
     let f = c.fork_sides-mine.ensures in
     let mine = same_views (views a) (left_side l k (views p)) f.left_values f.left_readers f.left_marks in
     let theirs = same_views (views d) (right_side l k (views p)) f.right_values f.right_readers f.right_marks in
-    let both = c.mend_at_once-one in
+    let sides = c.mend_at_once-one in
+    let one = sides.result.0 in
+    let two = sides.result.1 in
     let j = c.join-pass.result in
     let e = c.join-pass.ensures in
-    let joins : Joins (views both.result.0.1) (views both.result.1.1) (views j) = record { values = e.values; united = e.united; readers = e.readers; once = e.once; marks = e.marks; united_marks = e.united_marks; dropped = e.dropped; kept = e.kept } in
+    let joins : Joins (views one.1) (views two.1) (views j) = record { values = e.values; united = e.united; readers = e.readers; once = e.once; marks = e.marks; united_marks = e.united_marks; dropped = e.dropped; kept = e.kept } in
     let o = c.in_sides-whole in
     let y = c.cleared.result in
     let clears = subst (λ (z : Handle). Clears z (views j) (views y)) (ap (λ z. z.node) c.deref.ensures) c.cleared.ensures.clears in
-    sides_done w n l k rest p a d mine theirs f.left_room f.right_room both.result.0.1 both.result.1.1 both.result.0.0 both.result.1.0 both.ensures.left both.ensures.right j o.result o.ensures.end joins (sym c.if-not-is_done.ensures) y clears o.ensures.kept
+    sides_done w n l k rest p a d mine theirs f.left_room f.right_room one.1 two.1 one.0 two.0 sides.ensures.left sides.ensures.right j o.result o.ensures.end joins (sym c.if-not-is_done.ensures) y clears o.ensures.kept
 
 pub mend_sides-returns-then-not-is_done-clause-counts : goal.mend_sides-returns-then-not-is_done-clause-counts
 mend_sides-returns-then-not-is_done-clause-counts g t c =
-    c.in_sides-whole.ensures.counts (kept_of c.args.left) (kept_of c.args.right) c.mend_at_once-one.ensures.left_counts c.mend_at_once-one.ensures.right_counts
+    c.in_sides-whole.ensures.counts (kept_of c.args.left) (kept_of c.args.right) c.mend_at_once-one.ensures.counts.0 c.mend_at_once-one.ensures.counts.1
 
 pub mend_sides-returns-clause-counts : goal.mend_sides-returns-clause-counts
 mend_sides-returns-clause-counts g t c =
-    c.in_sides-whole.ensures.counts (kept_of c.args.left) (kept_of c.args.right) c.mend_at_once-one.ensures.left_counts c.mend_at_once-one.ensures.right_counts
-
--- both records at once
+    c.in_sides-whole.ensures.counts (kept_of c.args.left) (kept_of c.args.right) c.mend_at_once-one.ensures.counts.0 c.mend_at_once-one.ensures.counts.1
 
 pub mend_at_once-both-requires-send-A : goal.mend_at_once-both-requires-send-A
-mend_at_once-both-requires-send-A g t c κs within = search (sendable, outcome_send, pass.the_send) depth 30
+mend_at_once-both-requires-send-A g t c κs within = search (sendable, outcome_send, pass.the_send) depth 20
 
 pub mend_at_once-both-requires-send-B : goal.mend_at_once-both-requires-send-B
-mend_at_once-both-requires-send-B g t c κs within = search (sendable, outcome_send, pass.the_send) depth 30
+mend_at_once-both-requires-send-B g t c κs within = search (sendable, outcome_send, pass.the_send) depth 20
