@@ -1,5 +1,6 @@
 -- What a repair came to, by its result, and what is answered where it is done.
 use Rattle.std.proofs.Common.{◌≡◌, ℕ, ◌+◌, ◌<◌, length, Some, Result, Ok, Err, IfOk, sym, ◌∙◌, subst}
+use Rattle.std.proofs.lemmas.Grind.{merely}
 use Rattle.psac_ops.specs.declared.plain.Handle.{Handle}
 use Rattle.psac_ops.specs.Named.{same_handle}
 use Rattle.psac_fork.specs.declared.tables.Pass.{Pass}
@@ -33,8 +34,10 @@ use Rattle.psac_stage.proofs.Clears.{rested, cleared, has_all}
 use Rattle.psac_stage.proofs.Settles.{settled_all, settled_rested}
 use Rattle.psac_stage.proofs.Storing.{inside}
 use Rattle.psac_engine.specs.Commit.{Answers}
+use Rattle.psac_engine.specs.Repaired.{Repaired}
 use Rattle.psac_engine.specs.Running.{Shows}
 use Rattle.psac_engine.specs.Mending.{Staged, Came, Told, Finished}
+use Rattle.psac_engine.proofs.Aging.{repaired_back}
 use Rattle.psac_engine.proofs.Fits.{in_caps}
 use Rattle.psac_engine.proofs.Dropping.{done_told, done_mended, owes, names}
 use Rattle.psac_engine.proofs.Recordings.{all_back, recorded_back, outputs_back}
@@ -141,13 +144,17 @@ module _ (w : World) (g h : Grid) (caps : Caps) (age : ℕ) (t : Tables) (k : Ke
           all.1,
           (
             all.0,
-            done_shows w g h caps age t k p s q z new good settles came_all,
+            merely (done_shows w g h caps age t k p s q z new good settles came_all),
             recorded_back w g h caps age t k p s q new good z settles came_all rest young fresh v b,
             outputs_back w g h caps age t k p s q new good z settles came_all rest young fresh v b,
             done_answers w g h caps age t k p s q z new good settles came_all work
                 (worked (mended same_handle (bare k) (bare new)) counts_are.0),
           ),
         )
+
+    pub came_repaired : (v : Pass) → GaveBack new (dropped_of o.dropped) z v → Repaired w h k new (views p) (views v)
+    came_repaired v back =
+        repaired_back w g h caps age t k p s q new good z settles came_all young fresh v (subst (λ ks. GaveBack new ks z v) counts_are.1 back)
 
   -- where it stopped, and all that was made went back
   module _ (why : Stop) (is : o.told ≡ Err why) (v : Pass) (of : IsOf v t) (values : ValuesNone z.values.knows v.values.knows)

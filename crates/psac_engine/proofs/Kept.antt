@@ -1,6 +1,7 @@
 -- What a commit answers where a run is kept, from what a run anew answers.
-use Rattle.std.proofs.Common.{◌≡◌, ℕ, ◌+◌, ◌<◌, List, [], length, Option, Some, None, Ok, Err, Result, IsSome, is_some, unwrap_or, refl, ap, sym, ◌∙◌, subst, arith}
+use Rattle.std.proofs.Common.{◌≡◌, ℕ, ◌+◌, ◌<◌, List, length, Option, Some, None, Ok, Err, Result, IsSome, is_some, unwrap_or, refl, ap, sym, ◌∙◌, subst, arith}
 use Rattle.std.specs.Prelude.{option_map}
+use Rattle.std.proofs.lemmas.Grind.{merely}
 use Rattle.psac_fork.specs.declared.tables.Pass.{Pass}
 use Rattle.psac_fork.specs.declared.tables.Tables.{Tables}
 use Rattle.psac_ops.specs.declared.plain.TextId.{TextId}
@@ -73,7 +74,7 @@ few_nodes one caps p fit a b =
 module _ (w : World) (h : Grid) (caps : Caps) (q : Pass) where
   -- a run anew, where none is kept
   pub from_run : (age : ℕ) (told : Result (Work × Record) Answer) → HasRun w h caps age q told → HasRunFrom w None h caps age q told
-  from_run age (Ok kept) r = (r.0, r.1, r.5, r.3, r.4)
+  from_run age (Ok kept) r = (r.0, merely r.1, r.5, r.3, r.4)
   from_run age (Err a) r = r
 
   -- a generation later
@@ -84,7 +85,7 @@ module _ (w : World) (h : Grid) (caps : Caps) (q : Pass) where
   -- and where the model's commit runs anew
   pub anew_run : (g : Grid) (age : ℕ) (told : Result (Work × Record) Answer) → work_after caps (Some (fresh w g)) (fresh w h).tree ≡ anew_work (size_of (fresh w h).tree) → HasRun w h caps age q told → HasRunFrom w (Some g) h caps age q told
   anew_run g age (Ok kept) same r =
-      (r.0, r.1, r.5, r.3, good_anew caps (Some (fresh w g)) (fresh w h) (outcome w caps h) kept.0 r.1.good same r.4)
+      (r.0, merely r.1, r.5, r.3, good_anew caps (Some (fresh w g)) (fresh w h) (outcome w caps h) kept.0 r.1.good same r.4)
   anew_run g age (Err a) same r = (r.0, r.1, error_answers caps None (Some (fresh w g)) (outcome w caps h) a r.2)
 
   -- what is known of the tables where a record is kept

@@ -23,3 +23,7 @@ pub mod Stopped
 pub mod Dropping
 pub mod Recordings
 pub mod Dones
+pub mod Rests
+pub mod Modes
+pub mod Keeping
+pub mod Aging

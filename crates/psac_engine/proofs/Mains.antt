@@ -1,5 +1,5 @@
 -- The call that runs main's body, by what it is passed.
-use Rattle.std.proofs.Common.{◌≡◌, ℕ, ◌+◌, List, [], length, None, refl, ap, sym, ◌∙◌, subst, inl, arith}
+use Rattle.std.proofs.Common.{◌≡◌, ℕ, ◌+◌, List, [], length, None, refl, ap, sym, ◌∙◌, subst, arith}
 use Rattle.psac_ops.specs.declared.plain.Handle.{Handle}
 use Rattle.psac_ops.specs.declared.plain.TextId.{TextId}
 use Rattle.psac_ops.specs.Named.{same_handle}

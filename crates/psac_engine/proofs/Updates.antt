@@ -12,15 +12,15 @@ use Rattle.psac_model.specs.declared.ends.End.TheVariants.{Done}
 use Rattle.psac_model.specs.Names.{Name, Input, Out, Rows, Made, Heap}
 use Rattle.psac_model.specs.Expression.{Setting}
 use Rattle.psac_model.specs.Tree.{size_of, add_size}
-use Rattle.psac_model.specs.Fresh.{World, fresh, outcome, ended, main_of, levels, setting, row_heap, cells_heap, grid_heap}
+use Rattle.psac_model.specs.Fresh.{World, fresh, outcome, ended, main_of, setting, row_heap, cells_heap, grid_heap}
 use Rattle.psac_model.specs.Series.{meets}
 use Rattle.psac_model.specs.Work.{anew_work}
-use Rattle.psac_naming.specs.Naming.{Naming, IsNamed}
+use Rattle.psac_naming.specs.Naming.{IsNamed}
 use Rattle.psac_plain.specs.Opened.{at_slot, first_output, output_env, setting_over}
-use Rattle.psac_plain.proofs.Beginning.{named_by, begun, place_of, out_names, begin_unused, begin_settings, begin_envs}
+use Rattle.psac_plain.proofs.Beginning.{named_by, place_of, out_names, begin_unused, begin_settings, begin_envs}
 use Rattle.psac_plain.proofs.Cells.{names_in, even_first, even_rest}
 use Rattle.psac_plain.proofs.Linked.{handles_told}
-use Rattle.psac_traced.specs.Rec.{Rec, HeapOf, tree_of}
+use Rattle.psac_traced.specs.Rec.{Rec, tree_of}
 use Rattle.psac_traced.specs.Renamed.{Heaps}
 use Rattle.psac_traced.specs.Bodies.{itself}
 use Rattle.psac_traced.specs.Serial.{Serial}

@@ -1,7 +1,9 @@
 -- What a commit answers, and what it keeps.
-use Rattle.std.specs.Prelude.{◌≡◌, ℕ, ◌≤◌, Contains, Option, Some, None, Result, Ok, Err}
+use Rattle.std.specs.Prelude.{◌≡◌, ℕ, ◌≤◌, [], Contains, Option, Some, None, Result, Ok, Err}
 use Rattle.psac_inputs.specs.Grid.{Grid}
+use Rattle.psac_inputs.specs.Batch.{Batch, netted}
 use Rattle.psac_model.specs.declared.ends.Caps.{Caps}
+use Rattle.psac_model.specs.declared.ends.Mode.TheVariants as mode
 use Rattle.psac_model.specs.declared.ends.Work.{Work}
 use Rattle.psac_model.specs.Names.{Name, Heap}
 use Rattle.psac_model.specs.Tree.{Tree, size_of}
@@ -44,3 +46,11 @@ Answers caps kept o _ = ⊥
 abbrev pub kept_after : World → Grid → Result Work Answer → Option (Ran Name Heap)
 kept_after w g (Ok work) = Some (fresh w g)
 kept_after w g (Err a) = None
+
+-- the batch leaves the grid as it is: nothing is left of its edits, and its number of rows is the grid's
+abbrev pub IsIdle : Grid → Batch → Type 0
+IsIdle g b = (netted g b.edits ≡ []) × (b.rows ≡ g.rows)
+
+-- the work of a repair that has nothing to do
+abbrev pub no_work : Work
+no_work = record { mode = mode.Repair; visited = 0; rerun = 0; inside = 0; dropped = 0; nodes = 0; mods = 0; links = 0 }

@@ -7,3 +7,5 @@ pub mod Outputs
 pub mod Showing
 pub mod Engine
 pub mod Mending
+pub mod Repaired
+pub mod Repairing

@@ -1,12 +1,12 @@
 -- A commit that finds a record kept: what its repair begins with, and what it leaves.
-use Rattle.std.specs.Prelude.{◌≡◌, ℕ, ◌+◌, List, [], length, None, Option, Some, option_map, is_some, false, Result, Ok, Err}
+use Rattle.std.specs.Prelude.{◌≡◌, ℕ, ◌+◌, List, [], length, None, Option, Some, option_map, is_some, true, false, Result, Ok, Err}
 use Rattle.std.specs.Option.{ForSome}
-use Rattle.psac_ops.specs.declared.plain.Handle.{Handle}
 use Rattle.psac_fork.specs.declared.tables.Pass.{Pass}
 use Rattle.psac_fork.specs.declared.tables.Tables.{Tables}
 use Rattle.psac_fork.specs.Whole.{IsOf}
 use Rattle.psac_inputs.specs.Grid.{Grid, IsGrid}
 use Rattle.psac_model.specs.declared.ends.Caps.{Caps}
+use Rattle.psac_model.specs.declared.ends.End.TheVariants.{Done}
 use Rattle.psac_model.specs.declared.ends.Work.{Work}
 use Rattle.psac_model.specs.Tree.{size_of}
 use Rattle.psac_model.specs.Fresh.{World, fresh, outcome, main_of}
@@ -34,6 +34,7 @@ use Rattle.psac_engine.specs.declared.answer.Answer.TheVariants as answer
 use Rattle.psac_engine.specs.Commit.{Answers, IsCaps, work_after}
 use Rattle.psac_engine.specs.Outputs.{HasOutputs}
 use Rattle.psac_engine.specs.Running.{Shows}
+use Rattle.psac_engine.specs.Sound.{fresh_over}
 
 -- the record of a run over the grid g, in a pass in which the words of the grid h were put in its place
 pub record Staged (w : World) (g h : Grid) (caps : Caps) (age : ℕ) (t : Tables) (k : Kept) (p : Pass) : Type 0 where
@@ -71,7 +72,7 @@ pub record Came (w : World) (h : Grid) (t : Tables) (k : Kept) (p q : Pass) (o :
 -- what a commit leaves, which found the run on the grid g kept, or none: the work and the record that are kept, or the answer
 abbrev pub HasRunFrom : World → Option Grid → Grid → Caps → ℕ → Pass → Result (Work × Record) Answer → Type 0
 HasRunFrom w g h caps age q (Ok kept) =
-    HasAll h (length w.main.dests) caps age q × Shows w h caps (rec_of kept.1) × Recorded w h (kept_of kept.1) q.values.knows q.readers.knows q.marks.knows × HasOutputs w h q.values.knows × Answers caps (option_map (fresh w) g) (outcome w caps h) (Ok kept.0)
+    HasAll h (length w.main.dests) caps age q × ∥ Shows w h caps (rec_of kept.1) ∥₁ × Recorded w h (kept_of kept.1) q.values.knows q.readers.knows q.marks.knows × HasOutputs w h q.values.knows × Answers caps (option_map (fresh w) g) (outcome w caps h) (Ok kept.0)
 HasRunFrom w g h caps age q (Err a) =
     HasAll h (length w.main.dests) caps (age + 1) q × IsCleared (fixed_slots h (length w.main.dests)) q × Answers caps (option_map (fresh w) g) (outcome w caps h) (Err a)
 
@@ -82,6 +83,11 @@ pub record Keeps (w : World) (g : Grid) (caps : Caps) (age : ℕ) (t : Tables) (
   pub rested : IsRested p
   pub cleared : is_some kept ≡ false → IsCleared (fixed_slots g (length w.main.dests)) p
   pub recorded : ForSome kept (λ r. Recorded w g (kept_of r) p.values.knows p.readers.knows p.marks.knows)
+  -- the record shows the fresh run, which ends well within the caps
+  pub shows : ForSome kept (λ r. ∥ Shows w g caps (rec_of r) ∥₁)
+  pub outputs : is_some kept ≡ true → HasOutputs w g p.values.knows
+  pub small : is_some kept ≡ true → fresh_over w g caps ≡ []
+  pub done : is_some kept ≡ true → (fresh w g).end ≡ Done
 
 -- what is told of a commit whose repair stopped
 abbrev pub StoppedFor : World → Grid → Grid → Caps → Stop → Type 0

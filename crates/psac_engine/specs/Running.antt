@@ -5,8 +5,6 @@ use Rattle.psac_ops.specs.Value.{Value}
 use Rattle.psac_ops.specs.Named.{same_handle, value_of}
 use Rattle.psac_values.specs.declared.view.ValueView.{ValueView}
 use Rattle.psac_fork.specs.declared.tables.Pass.{Pass}
-use Rattle.psac_fork.specs.declared.tables.Tables.{Tables}
-use Rattle.psac_fork.specs.Whole.{IsOf}
 use Rattle.psac_inputs.specs.Grid.{Grid}
 use Rattle.psac_model.specs.declared.ends.Caps.{Caps}
 use Rattle.psac_model.specs.declared.ends.Work.{Work}
@@ -20,7 +18,7 @@ use Rattle.psac_stage.specs.Places.{fixed_slots, heap_of, run_of}
 use Rattle.psac_stage.specs.Holding.{value_in}
 use Rattle.psac_stage.specs.Recorded.{Recorded}
 use Rattle.psac_engine.specs.Outputs.{HasOutputs}
-use Rattle.psac_stage.specs.Resting.{HasAll, IsRested, IsCleared}
+use Rattle.psac_stage.specs.Resting.{HasAll, IsCleared}
 
 -- the words of the inputs and of all that the record wrote are the heap's values
 pub record HasHeap (w : World) (g : Grid) (r : Rec Handle) (v : ValueView) : Type 0 where

@@ -1,5 +1,5 @@
 -- What holds of every engine, by what it keeps.
-use Rattle.std.specs.Prelude.{List, [], Option, option_map, unwrap_or}
+use Rattle.std.specs.Prelude.{List, [], unwrap_or}
 use Rattle.psac_ops.specs.declared.plain.TextId.{TextId}
 use Rattle.psac_syntax.specs.declared.program.Func.{Func}
 use Rattle.psac_syntax.specs.declared.program.Program.{Program}

@@ -1,17 +1,22 @@
 //! A commit, by what is kept.
-ghost use Rattle.std.specs.Prelude.{◌≡◌, ℕ, ◌+◌, ◌<◌, option_map};
+ghost use Rattle.std.specs.Option.{ForSome};
+ghost use Rattle.std.specs.Prelude.{◌≡◌, ℕ, ◌+◌, ◌<◌, option_map, is_some, true, Ok};
 ghost use Rattle.psac_fork.specs.Whole.{IsOf};
 ghost use Rattle.psac_inputs.specs.Batch.{empty_batch, put_all, GoesInto};
 ghost use Rattle.psac_model.specs.declared.ends.Caps.{Caps};
 ghost use Rattle.psac_record.specs.declared.record.Record.{Record as Kept};
+ghost use Rattle.psac_record.specs.Shown.{kept_of};
+ghost use Rattle.psac_repair.specs.Going.{views};
 ghost use Rattle.psac_stage.specs.Resting.{IsRested};
-ghost use Rattle.psac_engine.specs.Commit.{IsCaps};
+ghost use Rattle.psac_engine.specs.Commit.{IsCaps, IsIdle, no_work};
 ghost use Rattle.psac_engine.specs.Mending.{Keeps, HasRunFrom};
+ghost use Rattle.psac_engine.specs.Repaired.{RepairsTo};
 ghost use Rattle.psac_engine.specs.Sound.{world_with};
 
 use crate::Answer;
 use crate::anew::{outputs_of, run_program};
 use crate::repaired::commit_kept;
+use crate::rest::{is_at_rest, work_at_rest};
 use psac_check::Checked;
 use psac_fork::{Crew, Gate, Pass, Tables};
 use psac_inputs::{Batch, Grid};
@@ -23,7 +28,8 @@ use psac_stage::store::staged;
 use std::alloc::Global;
 use std::thread::Threads;
 
-/// Puts the batch into the grid, and empties it. Then a record that is kept is repaired, and where there is none the program runs.
+/// Puts the batch into the grid, and empties it. Then a record that is kept is repaired, if anything is left of the batch, and where
+/// there is none the program runs.
 pub fn commit_on<Rt: Threads + Sync, G: Gate + Sync>(
     rt: &Rt,
     alloc: Global,
@@ -43,6 +49,11 @@ pub fn commit_on<Rt: Threads + Sync, G: Gate + Sync>(
     ensures rested { IsRested result.1 }
     ensures run { (caps : Caps) (age : ℕ) → IsCaps caps → age + 2 < 4294967295 → Keeps (world_with program.now texts.now) grid.old caps age tables.now kept pass
         → HasRunFrom (world_with program.now texts.now) (option_map (λ (r : Kept). grid.old) kept) grid.new caps (age + 1) result.1 result.0 }
+    ensures repairs { (caps : Caps) (age : ℕ) → IsCaps caps → age + 2 < 4294967295
+        → Keeps (world_with program.now texts.now) grid.old caps age tables.now kept pass
+        → ForSome kept (λ r. RepairsTo (world_with program.now texts.now) grid.new (kept_of r) (views pass) (views result.1)
+        result.0) }
+    ensures idle { is_some kept ≡ true → IsIdle grid.old batch.old → (r : Kept) × (result.0 ≡ Ok (no_work, r)) }
     ensures grid { grid.new ≡ put_all batch.old grid.old }
     ensures batch { batch.new ≡ empty_batch grid.new }
     ensures goes { GoesInto batch.new grid.new }
@@ -54,6 +65,10 @@ pub fn commit_on<Rt: Threads + Sync, G: Gate + Sync>(
     let outs = outputs_of(program);
     match kept {
         Some(record) => {
+            if is_at_rest(grid, batch) {
+                batch.clear(grid);
+                return (Ok((work_at_rest(), record)), pass);
+            }
             let pass = stage_batch(tables, pass, grid, batch, outs);
             grid.rows();
             commit_kept(

@@ -60,12 +60,14 @@ pub struct Engine {
 }
 
 impl Engine {
-    ghost use Rattle.std.specs.Prelude.{◌+◌, ◌<◌, IfOk, IfSome, Some};
+    ghost use Rattle.std.specs.Prelude.{◌+◌, ◌<◌, IfOk, IfSome, Some, Ok};
+    ghost use Rattle.psac_model.specs.declared.ends.Mode.TheVariants as mode;
     ghost use Rattle.psac_model.specs.Tree.{size_of};
     ghost use Rattle.psac_model.specs.Fresh.{outcome, world_of};
     ghost use Rattle.psac_model.specs.Outputs.{outputs_from};
-    ghost use Rattle.psac_engine.specs.Commit.{Answers, kept_after, most_commits};
+    ghost use Rattle.psac_engine.specs.Commit.{Answers, IsIdle, kept_after, most_commits, no_work};
     ghost use Rattle.psac_engine.specs.Engine.{IsOpened, IsSettled, caps_in, commits_in, grid_in, kept_in, world_in};
+    ghost use Rattle.psac_engine.specs.Repairing.{IsRepaired};
 
     /// An engine in which nothing has run. The texts are those of the program, in its order.
     pub fn open(
@@ -113,6 +115,10 @@ impl Engine {
         ensures grid { grid_in self.new ≡ put_all batch.old (grid_in self.old) }
         ensures answer { Answers (caps_in self.old) (kept_in self.old) (outcome (world_in self.old) (caps_in self.old) (grid_in self.new)) result }
         ensures kept { kept_in self.new ≡ kept_after (world_in self.old) (grid_in self.new) result }
+        // A commit that says that it repaired the record did so: all of it is kept that isn't inside a block that ran again.
+        ensures repaired { IfOk result (λ work. work.mode ≡ mode.Repair → IsRepaired self.old self.new) }
+        // Where a run is kept and the batch leaves the grid as it is, no memory is wanting.
+        ensures idle { is_some (kept_in self.old) ≡ true → IsIdle (grid_in self.old) batch.old → result ≡ Ok no_work }
         ensures commits { commits_in self.new ≡ commits_in self.old + 1 }
         ensures world { world_in self.new ≡ world_in self.old }
         ensures caps { caps_in self.new ≡ caps_in self.old }

@@ -6,6 +6,7 @@ mod answer;
 mod commit;
 mod engine;
 mod repaired;
+mod rest;
 mod show;
 mod trace;
 

@@ -1,14 +1,17 @@
 //! A commit that finds a record kept: it is repaired, and what it dropped goes back.
-ghost use Rattle.std.specs.Prelude.{◌≡◌, ℕ, ◌+◌, ◌<◌, None, Some, Err};
+ghost use Rattle.std.specs.Prelude.{◌≡◌, ℕ, ◌+◌, ◌<◌, None, Some, Err, IfOk};
 ghost use Rattle.psac_fork.specs.Whole.{IsOf};
 ghost use Rattle.psac_inputs.specs.Grid.{Grid, IsGrid};
 ghost use Rattle.psac_model.specs.declared.ends.Caps.{Caps};
+ghost use Rattle.psac_model.specs.declared.ends.Mode.TheVariants as mode;
 ghost use Rattle.psac_model.specs.Fresh.{World as Whole};
 ghost use Rattle.psac_record.specs.Kept.{Kept};
 ghost use Rattle.psac_record.specs.Shown.{kept_of};
+ghost use Rattle.psac_repair.specs.Going.{views};
 ghost use Rattle.psac_stage.specs.Resting.{IsRested, MayRun};
 ghost use Rattle.psac_engine.specs.Commit.{IsCaps};
 ghost use Rattle.psac_engine.specs.Mending.{Staged, Came, Finished, HasRunFrom};
+ghost use Rattle.psac_engine.specs.Repaired.{RepairsTo};
 ghost use Rattle.psac_engine.specs.Sound.{world_with};
 
 use crate::Answer;
@@ -70,8 +73,11 @@ fn repaired<Rt: Threads + Sync, G: Gate + Sync>(
 /// Settles the tables after a repair. Where it is done what it dropped goes back, and else all that was made.
 fn finished(tables: &Tables, outcome: Outcome, pass: Pass) -> (Result<(Work, Record), Stop>, Pass)
     requires { (w : Whole) × (g : Grid) × (h : Grid) × (caps : Caps) × (age : ℕ) × (k : Kept) × (p : Pass) × (age < 4294967295) × Staged w g h caps age tables.now k p × Came w h tables.now k p pass outcome }
-    ensures { (w : Whole) (g h : Grid) (caps : Caps) (age : ℕ) (k : Kept) (p : Pass) → Staged w g h caps age tables.now k p → Came w h tables.now k p pass outcome
+    ensures ends { (w : Whole) (g h : Grid) (caps : Caps) (age : ℕ) (k : Kept) (p : Pass) → Staged w g h caps age tables.now k p → Came w h tables.now k p pass outcome
         → Finished w g h caps (age + 1) tables.now result.1 result.0 }
+    ensures repairs { (w : Whole) (g h : Grid) (caps : Caps) (age : ℕ) (k : Kept) (p : Pass)
+        → Staged w g h caps age tables.now k p → Came w h tables.now k p pass outcome
+        → RepairsTo w h k (views p) (views result.1) result.0 }
 {
     let pass = settled(tables, pass);
     let Outcome {
@@ -98,6 +104,7 @@ fn told_anew(
     ensures of { IsOf result.1 tables.now }
     ensures rested { IsRested result.1 }
     ensures run { (w : Whole) (g h : Grid) (caps : Caps) (age : ℕ) → IsGrid h → HasRunFrom w None h caps age pass told → HasRunFrom w (Some g) h caps age result.1 result.0 }
+    ensures anew { IfOk result.0 (λ kept. kept.0.mode ≡ mode.Anew) }
 {
     match told {
         // A run that meets a fault keeps no record, so this isn't come to.
@@ -124,6 +131,7 @@ fn after_stop<Rt: Threads + Sync, G: Gate + Sync>(
     ensures rested { IsRested result.1 }
     ensures run { (g : Grid) (caps : Caps) (age : ℕ) → Finished (world_with program.now texts.now) g grid.now caps age tables.now pass (Err stop)
         → HasRunFrom (world_with program.now texts.now) (Some g) grid.now caps age result.1 result.0 }
+    ensures anew { IfOk result.0 (λ kept. kept.0.mode ≡ mode.Anew) }
 {
     // From it the check learns what holds of the grid.
     grid.rows();
@@ -161,6 +169,9 @@ pub fn commit_kept<Rt: Threads + Sync, G: Gate + Sync>(
     ensures rested { IsRested result.1 }
     ensures run { (g : Grid) (caps : Caps) (age : ℕ) → Staged (world_with program.now texts.now) g grid.now caps age tables.now (kept_of tree) pass
         → HasRunFrom (world_with program.now texts.now) (Some g) grid.now caps (age + 1) result.1 result.0 }
+    ensures repairs { (g : Grid) (caps : Caps) (age : ℕ)
+        → Staged (world_with program.now texts.now) g grid.now caps age tables.now (kept_of tree) pass
+        → RepairsTo (world_with program.now texts.now) grid.now (kept_of tree) (views pass) (views result.1) result.0 }
 {
     let (outcome, pass) = repaired(
         rt, alloc, crew, gate, tables, program, texts, grid, tree, pass,

@@ -1,13 +1,14 @@
-use Rattle.std.proofs.Common.{◌≡◌, ◌+◌, ◌<◌, length, None, Some, Err, Ok, Result, ap, sym, ◌∙◌, subst, arith}
+use Rattle.std.proofs.Common.{◌≡◌, Some, Err, ap, ◌∙◌, subst, arith}
 use Rattle.psac_model.specs.Fresh.{World, fresh, outcome}
 use Rattle.psac_trace.specs.declared.halt.Halt.TheVariants as halt
 use Rattle.psac_repair.specs.declared.outcome.Stop.{Stop}
 use Rattle.psac_repair.specs.declared.outcome.Stop.TheVariants as stop
 use Rattle.psac_engine.specs.declared.answer.Answer.TheVariants as answer
-use Rattle.psac_engine.specs.Mending.{Finished, HasRunFrom}
+use Rattle.psac_engine.specs.Mending.{Finished}
 use Rattle.psac_engine.specs.Sound.{world_with}
 use Rattle.psac_engine.proofs.Outcomes.{wanting}
 use Rattle.psac_engine.proofs.Kept.{from_run, anew_run, stopped_run}
+use Rattle.psac_engine.proofs.Modes.{run_anew}
 use Rattle.psac_engine.proofs.repaired.after_stop.Goals as goal
 
 pub told_anew-requires : goal.told_anew-requires
@@ -56,3 +57,12 @@ returns-in-Unsettled-clause-run g c = λ one caps age f.
     let w : World = world_with c.args.program.now c.args.texts.now in
     let ran = c.run_program-told.ensures.run caps age f.0 in
     c.told_anew.ensures.run w one c.args.grid.now caps age c.rows.ensures.sound (from_run w c.args.grid.now caps c.run_program-told.result.1 age c.run_program-told.result.0 ran)
+
+pub returns-in-Full-clause-anew : goal.returns-in-Full-clause-anew
+returns-in-Full-clause-anew g c =
+    let need = c.requires in
+    let w : World = world_with c.args.program.now c.args.texts.now in
+    let same : c.args.stop ≡ stop.Halt (halt.Full c.in-Full.field-0 c.in-Full.field-1) = c.in-Halt.is ∙ ap stop.Halt c.in-Full.is in
+    let told : Finished w need.0 c.args.grid.now need.1 need.2 c.args.tables.now c.args.pass (Err (stop.Halt (halt.Full c.in-Full.field-0 c.in-Full.field-1))) =
+    subst (λ (z : Stop). Finished w need.0 c.args.grid.now need.1 need.2 c.args.tables.now c.args.pass (Err z)) same need.5 in
+    run_anew w c.args.grid.now need.1 need.2 c.run_program.result.1 c.run_program.result.0 (c.run_program.ensures.run need.1 need.2 told.0)

@@ -2,7 +2,7 @@ use Rattle.std.proofs.Common.{◌<◌, subst, arith}
 use Rattle.psac_readers.specs.Chained.{mods_of}
 use Rattle.psac_stage.proofs.Begins.{time_in}
 use Rattle.psac_stage.proofs.Settles.{settled_rested}
-use Rattle.psac_engine.proofs.Dones.{came_all, came_fresh, came_owes, came_names, came_finished, came_reset}
+use Rattle.psac_engine.proofs.Dones.{came_all, came_fresh, came_owes, came_names, came_finished, came_repaired, came_reset}
 use Rattle.psac_engine.proofs.repaired.finished.Goals as goal
 
 pub reclaim-pass-requires-clause-sole : goal.reclaim-pass-requires-clause-sole
@@ -69,8 +69,8 @@ reset-requires-clause-sets c n low =
     c.settled-pass.ensures.settles).sets in
     time_in n (mods_of c.settled-pass.result.readers.knows.walk) (s.all n (subst (λ x. n < x) s.mods_is low))
 
-pub returns-in-Ok : goal.returns-in-Ok
-returns-in-Ok c w g h caps age k p s came =
+pub returns-in-Ok-clause-ends : goal.returns-in-Ok-clause-ends
+returns-in-Ok-clause-ends c w g h caps age k p s came =
     let m = c.requires in
     let t = c.args.tables.now in
     let z = c.settled-pass.result in
@@ -80,8 +80,19 @@ returns-in-Ok c w g h caps age k p s came =
     came_finished w g h caps age t k p s c.args.pass c.args.outcome came z e c.in-Ok.tally c.in-Ok.is m.4 fresh c.reclaim-pass.result r.of
     (record { values = r.values; readers = r.readers; marks = r.marks }) c.work.result c.work.ensures
 
-pub returns-in-Err : goal.returns-in-Err
-returns-in-Err c w g h caps age k p s came =
+pub returns-in-Err-clause-ends : goal.returns-in-Err-clause-ends
+returns-in-Err-clause-ends c w g h caps age k p s came =
     let r = c.reset.ensures in
     came_reset w g h caps age c.args.tables.now k p s c.args.pass c.args.outcome came c.settled-pass.result c.settled-pass.ensures.settles
     c.in-Err.stop c.in-Err.is c.reset.result r.of r.values r.readers r.marks
+
+pub returns-in-Ok-clause-repairs : goal.returns-in-Ok-clause-repairs
+returns-in-Ok-clause-repairs c w g h caps age k p s came = λ is.
+    let m = c.requires in
+    let t = c.args.tables.now in
+    let z = c.settled-pass.result in
+    let e = c.settled-pass.ensures.settles in
+    let r = c.reclaim-pass.ensures in
+    let fresh = came_fresh m.0 m.1 m.2 m.3 m.4 t m.5 m.6 m.8 c.args.pass c.args.outcome m.9 z e m.7 in
+    came_repaired w g h caps age t k p s c.args.pass c.args.outcome came z e c.in-Ok.tally c.in-Ok.is m.4 fresh c.reclaim-pass.result
+    (record { values = r.values; readers = r.readers; marks = r.marks })

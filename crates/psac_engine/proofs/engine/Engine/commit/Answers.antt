@@ -1,69 +1,53 @@
-use Rattle.std.proofs.Common.{◌≡◌, ◌+◌, ◌*◌, ◌<◌, ◌∙◌, ap, sym, subst, refl, length, is_some, option_map, true, false, Some, None, Result, Ok, Err, arith, List}
+use Rattle.std.proofs.Common.{◌≡◌, ◌+◌, ◌*◌, ◌<◌, ◌∙◌, ap, sym, subst, refl, length, is_some, option_map, true, false, Option, Some, None, Ok, Err, arith, List, inl, inr}
 use Rattle.std.specs.Option.{ForSome}
-use Rattle.std.proofs.lemmas.Grind.{merely}
 use Rattle.psac_ops.specs.declared.plain.TextId.{TextId}
-use Rattle.psac_model.specs.declared.ends.Work.{Work}
 use Rattle.psac_model.specs.Fresh.{fresh, outcome}
 use Rattle.psac_fork.specs.declared.tables.Pass.{Pass}
 use Rattle.psac_fork.specs.Whole.{IsOf}
 use Rattle.psac_record.specs.declared.record.Record.{Record}
 use Rattle.psac_record.specs.Shown.{kept_of, rec_of}
-use Rattle.psac_engine.specs.declared.answer.Answer.{Answer}
+use Rattle.psac_repair.specs.Going.{views}
 use Rattle.psac_stage.specs.Places.{fixed_slots}
 use Rattle.psac_stage.specs.Recorded.{Recorded}
 use Rattle.psac_stage.specs.Resting.{HasAll, IsRested, IsCleared}
+use Rattle.psac_engine.specs.Commit.{Answers, no_work}
 use Rattle.psac_engine.specs.Running.{Shows}
-use Rattle.psac_engine.specs.Mending.{Keeps, HasRunFrom}
+use Rattle.psac_engine.specs.Repaired.{RepairsTo}
 use Rattle.psac_engine.specs.Outputs.{HasOutputs}
 use Rattle.psac_engine.specs.Sound.{world_with}
 use Rattle.psac_stage.proofs.Settles.{all_older}
+use Rattle.std.proofs.lemmas.Grind.{merely}
 use Rattle.psac_engine.proofs.Engines.{for_some, for_none, good_means, some_not}
-use Rattle.psac_engine.proofs.Kept.{record_out, answers_kept}
+use Rattle.psac_engine.proofs.Keeping.{low, keeps, ran}
+use Rattle.psac_engine.proofs.Kept.{answers_kept}
+use Rattle.psac_engine.proofs.Modes.{ended_well, none_anew, anew_not, repairs_ok, kept_or, some_kept, ok_same, err_not}
 use Rattle.psac_engine.proofs.engine.Engine.commit.Goals as goal
 
 pub commit_on-told-requires-clause-keeps : goal.commit_on-told-requires-clause-keeps
 commit_on-told-requires-clause-keeps g c κs within =
     let e = c.args.self.now in
-    let w = world_with e.program e.consts.items in
     let p = c.in-Some.pass in
     let at = sym c.in-Some.ensures.value in
+    let k = c.take-2.result in
+    let same = c.take-2.ensures.value in
     let few : e.commits < 1000000000 = c.requires.few in
-    let keeps : Keeps w e.grid e.caps (1 + 2 * e.commits) e.tables c.take-2.result p =
-    record {
-      of = e.held p at;
-      all = e.all p at;
-      rested = e.rested p at;
-      cleared = λ z. e.cleared p at (sym (ap is_some c.take-2.ensures.value) ∙ z);
-      recorded = λ r is. record_out w e.grid (kept_of r) p (e.stands p at r (sym c.take-2.ensures.value ∙ is));
-    } in
-    (e.caps, 1 + 2 * e.commits, e.within, omega (arith, few), subst (λ (ts : List TextId). Keeps (world_with e.program ts) e.grid e.caps (1 + 2 * e.commits) e.tables c.take-2.result p) (sym c.deref.ensures.value) keeps)
+    let texts = c.deref.ensures.value in
+    (e.caps, 1 + 2 * e.commits, e.within, low e few p at k same c.deref.result.now texts, keeps e few p at k same c.deref.result.now texts)
 
 pub invariant_of-self : goal.invariant_of-self
 invariant_of-self g c =
     let e = c.args.self.now in
     let w = world_with e.program e.consts.items in
-    let outs = length w.main.dests in
-    let age = 1 + 2 * e.commits in
     let h = c.commit_on-told.new.grid in
     let p = c.in-Some.pass in
-    let at = sym c.in-Some.ensures.value in
     let q = c.commit_on-told.result.1 in
-    let few : e.commits < 1000000000 = c.requires.few in
-    let keeps : Keeps w e.grid e.caps age e.tables c.take-2.result p =
-    record {
-      of = e.held p at;
-      all = e.all p at;
-      rested = e.rested p at;
-      cleared = λ z. e.cleared p at (sym (ap is_some c.take-2.ensures.value) ∙ z);
-      recorded = λ r is. record_out w e.grid (kept_of r) p (e.stands p at r (sym c.take-2.ensures.value ∙ is));
-    } in
-    let before = option_map (λ (r : Record). e.grid) c.take-2.result in
-    let ran = c.commit_on-told.ensures.run e.caps age e.within (omega (arith, few)) (subst (λ (ts : List TextId). Keeps (world_with e.program ts) e.grid e.caps age e.tables c.take-2.result p) (sym c.deref.ensures.value) keeps) in
-    let run : HasRunFrom w before h e.caps (age + 1) q (Ok (c.in-Ok.work, c.in-Ok.record)) =
-    subst (λ (o : Result (Work × Record) Answer). HasRunFrom w before h e.caps (age + 1) q o) c.in-Ok.is
-    (subst (λ (ts : List TextId). HasRunFrom (world_with e.program ts) before h e.caps (age + 1) q c.commit_on-told.result.0) c.deref.ensures.value ran) in
+    let run = ran e c.requires.few p (sym c.in-Some.ensures.value) c.take-2.result c.take-2.ensures.value c.deref.result.now c.deref.ensures.value
+    h q c.commit_on-told.result.0 (Ok (c.in-Ok.work, c.in-Ok.record)) c.in-Ok.is c.commit_on-told.ensures.run in
+    let outs = length w.main.dests in
+    let age = 1 + 2 * e.commits in
     let r = c.in-Ok.record in
-    let good = good_means w e.caps h (fresh w h).tree (fresh w h).heap run.1.good in
+    let end = ended_well e.caps (option_map (fresh w) (option_map (λ (r : Record). e.grid) c.take-2.result)) (outcome w e.caps h) c.in-Ok.work run.4 in
+    let good = good_means w e.caps h end.0 end.1 end.2 in
     let older : (age + 1) + 1 ≡ 1 + 2 * (e.commits + 1) = omega arith in
     record {
       main = e.main;
@@ -79,33 +63,20 @@ invariant_of-self g c =
       done = λ z. good.1;
       stands = for_some (λ (x : Pass). ForSome (Some r) (λ (k : Record). ∥ Recorded w h (kept_of k) x.values.knows x.readers.knows x.marks.knows ∥₁)) q
           (for_some (λ (k : Record). ∥ Recorded w h (kept_of k) q.values.knows q.readers.knows q.marks.knows ∥₁) r (merely run.2));
-      shows = for_some (λ (k : Record). ∥ Shows w h e.caps (rec_of k) ∥₁) r (merely run.1);
+      shows = for_some (λ (k : Record). ∥ Shows w h e.caps (rec_of k) ∥₁) r run.1;
     }
 
 pub invariant_of-self-in-Err-1 : goal.invariant_of-self-in-Err-1
 invariant_of-self-in-Err-1 g c =
     let e = c.args.self.now in
     let w = world_with e.program e.consts.items in
-    let outs = length w.main.dests in
-    let age = 1 + 2 * e.commits in
     let h = c.commit_on-told.new.grid in
     let p = c.in-Some.pass in
-    let at = sym c.in-Some.ensures.value in
     let q = c.commit_on-told.result.1 in
-    let few : e.commits < 1000000000 = c.requires.few in
-    let keeps : Keeps w e.grid e.caps age e.tables c.take-2.result p =
-    record {
-      of = e.held p at;
-      all = e.all p at;
-      rested = e.rested p at;
-      cleared = λ z. e.cleared p at (sym (ap is_some c.take-2.ensures.value) ∙ z);
-      recorded = λ r is. record_out w e.grid (kept_of r) p (e.stands p at r (sym c.take-2.ensures.value ∙ is));
-    } in
-    let before = option_map (λ (r : Record). e.grid) c.take-2.result in
-    let ran = c.commit_on-told.ensures.run e.caps age e.within (omega (arith, few)) (subst (λ (ts : List TextId). Keeps (world_with e.program ts) e.grid e.caps age e.tables c.take-2.result p) (sym c.deref.ensures.value) keeps) in
-    let run : HasRunFrom w before h e.caps (age + 1) q (Err c.in-Err.answer) =
-    subst (λ (o : Result (Work × Record) Answer). HasRunFrom w before h e.caps (age + 1) q o) c.in-Err.is
-    (subst (λ (ts : List TextId). HasRunFrom (world_with e.program ts) before h e.caps (age + 1) q c.commit_on-told.result.0) c.deref.ensures.value ran) in
+    let run = ran e c.requires.few p (sym c.in-Some.ensures.value) c.take-2.result c.take-2.ensures.value c.deref.result.now c.deref.ensures.value
+    h q c.commit_on-told.result.0 (Err c.in-Err.answer) c.in-Err.is c.commit_on-told.ensures.run in
+    let outs = length w.main.dests in
+    let age = 1 + 2 * e.commits in
     let k = c.take-2.new.self in
     let none : k ≡ None = c.take-2.ensures.after in
     let older : (age + 1) + 1 ≡ 1 + 2 * (e.commits + 1) = omega arith in
@@ -130,50 +101,71 @@ pub returns-in-Ok-clause-answer : goal.returns-in-Ok-clause-answer
 returns-in-Ok-clause-answer g c =
     let e = c.args.self.now in
     let w = world_with e.program e.consts.items in
-    let outs = length w.main.dests in
-    let age = 1 + 2 * e.commits in
     let h = c.commit_on-told.new.grid in
     let p = c.in-Some.pass in
-    let at = sym c.in-Some.ensures.value in
     let q = c.commit_on-told.result.1 in
-    let few : e.commits < 1000000000 = c.requires.few in
-    let keeps : Keeps w e.grid e.caps age e.tables c.take-2.result p =
-    record {
-      of = e.held p at;
-      all = e.all p at;
-      rested = e.rested p at;
-      cleared = λ z. e.cleared p at (sym (ap is_some c.take-2.ensures.value) ∙ z);
-      recorded = λ r is. record_out w e.grid (kept_of r) p (e.stands p at r (sym c.take-2.ensures.value ∙ is));
-    } in
-    let before = option_map (λ (r : Record). e.grid) c.take-2.result in
-    let ran = c.commit_on-told.ensures.run e.caps age e.within (omega (arith, few)) (subst (λ (ts : List TextId). Keeps (world_with e.program ts) e.grid e.caps age e.tables c.take-2.result p) (sym c.deref.ensures.value) keeps) in
-    let run : HasRunFrom w before h e.caps (age + 1) q (Ok (c.in-Ok.work, c.in-Ok.record)) =
-    subst (λ (o : Result (Work × Record) Answer). HasRunFrom w before h e.caps (age + 1) q o) c.in-Ok.is
-    (subst (λ (ts : List TextId). HasRunFrom (world_with e.program ts) before h e.caps (age + 1) q c.commit_on-told.result.0) c.deref.ensures.value ran) in
+    let run = ran e c.requires.few p (sym c.in-Some.ensures.value) c.take-2.result c.take-2.ensures.value c.deref.result.now c.deref.ensures.value
+    h q c.commit_on-told.result.0 (Ok (c.in-Ok.work, c.in-Ok.record)) c.in-Ok.is c.commit_on-told.ensures.run in
     answers_kept w e.grid e.caps c.take-2.result e.kept (outcome w e.caps h) (Ok c.in-Ok.work) c.take-2.ensures.value run.4
 
 pub returns-in-Err-clause-answer : goal.returns-in-Err-clause-answer
 returns-in-Err-clause-answer g c =
     let e = c.args.self.now in
     let w = world_with e.program e.consts.items in
-    let outs = length w.main.dests in
-    let age = 1 + 2 * e.commits in
     let h = c.commit_on-told.new.grid in
     let p = c.in-Some.pass in
-    let at = sym c.in-Some.ensures.value in
     let q = c.commit_on-told.result.1 in
-    let few : e.commits < 1000000000 = c.requires.few in
-    let keeps : Keeps w e.grid e.caps age e.tables c.take-2.result p =
-    record {
-      of = e.held p at;
-      all = e.all p at;
-      rested = e.rested p at;
-      cleared = λ z. e.cleared p at (sym (ap is_some c.take-2.ensures.value) ∙ z);
-      recorded = λ r is. record_out w e.grid (kept_of r) p (e.stands p at r (sym c.take-2.ensures.value ∙ is));
-    } in
-    let before = option_map (λ (r : Record). e.grid) c.take-2.result in
-    let ran = c.commit_on-told.ensures.run e.caps age e.within (omega (arith, few)) (subst (λ (ts : List TextId). Keeps (world_with e.program ts) e.grid e.caps age e.tables c.take-2.result p) (sym c.deref.ensures.value) keeps) in
-    let run : HasRunFrom w before h e.caps (age + 1) q (Err c.in-Err.answer) =
-    subst (λ (o : Result (Work × Record) Answer). HasRunFrom w before h e.caps (age + 1) q o) c.in-Err.is
-    (subst (λ (ts : List TextId). HasRunFrom (world_with e.program ts) before h e.caps (age + 1) q c.commit_on-told.result.0) c.deref.ensures.value ran) in
+    let run = ran e c.requires.few p (sym c.in-Some.ensures.value) c.take-2.result c.take-2.ensures.value c.deref.result.now c.deref.ensures.value
+    h q c.commit_on-told.result.0 (Err c.in-Err.answer) c.in-Err.is c.commit_on-told.ensures.run in
     answers_kept w e.grid e.caps c.take-2.result e.kept (outcome w e.caps h) (Err c.in-Err.answer) c.take-2.ensures.value run.2
+
+pub returns-in-Ok-clause-repaired : goal.returns-in-Ok-clause-repaired
+returns-in-Ok-clause-repaired g c = λ mode.
+    let e = c.args.self.now in
+    let w = world_with e.program e.consts.items in
+    let h = c.commit_on-told.new.grid in
+    let p = c.in-Some.pass in
+    let q = c.commit_on-told.result.1 in
+    let run = ran e c.requires.few p (sym c.in-Some.ensures.value) c.take-2.result c.take-2.ensures.value c.deref.result.now c.deref.ensures.value
+    h q c.commit_on-told.result.0 (Ok (c.in-Ok.work, c.in-Ok.record)) c.in-Ok.is c.commit_on-told.ensures.run in
+    let at = sym c.in-Some.ensures.value in
+    let k = c.take-2.result in
+    let same = c.take-2.ensures.value in
+    let ts = c.deref.result.now in
+    let texts = c.deref.ensures.value in
+    let told = c.commit_on-told.ensures.repairs e.caps (1 + 2 * e.commits) e.within (low e c.requires.few p at k same ts texts)
+    (keeps e c.requires.few p at k same ts texts) in
+    let answer = answers_kept w e.grid e.caps k e.kept (outcome w e.caps h) (Ok c.in-Ok.work) same run.4 in
+    elim (kept_or e.kept) [
+      | inl none ↦ absurd
+          (anew_not c.in-Ok.work (none_anew e.caps (outcome w e.caps h) c.in-Ok.work
+          (subst (λ (o : Option Record). Answers e.caps (option_map (λ (r : Record). fresh w e.grid) o) (outcome w e.caps h) (Ok c.in-Ok.work)) none answer)) mode)
+      | inr some ↦ record {
+        old = some.0;
+        new = c.in-Ok.record;
+        before = p;
+        after = q;
+        kept = some.1;
+        keeps = refl;
+        had = at;
+        has = refl;
+        repaired = repairs_ok w h (kept_of some.0) (views p) (views q) c.commit_on-told.result.0 (c.in-Ok.work, c.in-Ok.record) c.in-Ok.is
+            (subst (λ (xs : List TextId). RepairsTo (world_with e.program xs) h (kept_of some.0) (views p) (views q) c.commit_on-told.result.0) texts
+            (told some.0 (same ∙ some.1)))
+            mode;
+      }
+    ]
+
+pub returns-in-Ok-clause-idle : goal.returns-in-Ok-clause-idle
+returns-in-Ok-clause-idle g c = λ some idle.
+    let e = c.args.self.now in
+    let w = world_with e.program e.consts.items in
+    let told = c.commit_on-told.ensures.idle (ap is_some c.take-2.ensures.value ∙ some_kept (λ (r : Record). fresh w e.grid) e.kept some) idle in
+    ok_same c.in-Ok.work no_work c.in-Ok.record told.0 (sym c.in-Ok.is ∙ told.1)
+
+pub returns-in-Err-clause-idle : goal.returns-in-Err-clause-idle
+returns-in-Err-clause-idle g c = λ some idle.
+    let e = c.args.self.now in
+    let w = world_with e.program e.consts.items in
+    let told = c.commit_on-told.ensures.idle (ap is_some c.take-2.ensures.value ∙ some_kept (λ (r : Record). fresh w e.grid) e.kept some) idle in
+    absurd (err_not c.in-Err.answer (no_work, told.0) (sym c.in-Err.is ∙ told.1))
