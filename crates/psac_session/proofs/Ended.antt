@@ -1,5 +1,6 @@
 -- How a session ends.
-use Rattle.std.proofs.Common.{◌≡◌, ◌∙◌, ℕ, ◌+◌, ◌-◌, Bool, true, List, [], ◌∷◌, ◌++◌, ◌⊎◌, inl, inr, Option, Some, None, length, take, drop, slice_index, refl, ap, sym, subst, arith, length-append}
+use Rattle.std.proofs.Common.{◌≡◌, ◌∙◌, ℕ, ◌+◌, ◌-◌, Bool, true, List, [], ◌∷◌, ◌++◌, ◌⊎◌, inl, inr, Option, Some, None, length, take, drop, slice_index, refl, ap, sym, subst, arith, append_assoc, length-append}
+use Rattle.std.specs.Prelude.{IfSome, slice_get, false}
 use Rattle.std.specs.List.{list_any}
 use Rattle.std.specs.Io.KnownBytes.{Consumes, IsAtEnd}
 use Rattle.std.proofs.lemmas.List.{append-nil, drop_all, take-append-le}
@@ -7,20 +8,29 @@ use Rattle.std.proofs.lemmas.List.Folds.{list_any-append}
 use Rattle.std.proofs.Math.Seq.{take-append_seam, take-append-add, take-length}
 use Rattle.psac_base.specs.Feeds.{NoFeed, lines_of}
 use Rattle.psac_base.specs.Lines.{GivesLine, Grew, NoFeedBeforePiece}
-use Rattle.psac_base.specs.Outside.{Appended, AppendedPart}
+use Rattle.psac_base.specs.Outside.{Appended}
 use Rattle.psac_base.proofs.Splits.{last_is_last, whole_is_next}
 use Rattle.psac_base.proofs.Wrote.{Appended-append, Appended-nil}
+use Rattle.psac_model.specs.declared.ends.Shown.{Shown}
 use Rattle.psac_model.specs.Fresh.{World}
-use Rattle.psac_report.specs.Session.{State}
-use Rattle.psac_report.specs.First.{Step, is_quit, replies_by}
-use Rattle.psac_session.specs.Answered.{Answer, Answered, AnsweredLong, AnsweredPart, AnsweredTo, AnsweredWhole, IsScript, ReadOut}
-use Rattle.psac_session.proofs.Replies.{replies_quit}
-use Rattle.psac_session.proofs.Told.{Told}
-use Rattle.psac_session.proofs.Turn.{Behind, Going, Over, cut_all, cut_whole, grown, line_then}
+use Rattle.psac_report.specs.Script.{Command, Commit, command_of}
+use Rattle.psac_report.specs.Session.{State, shown_now}
+use Rattle.psac_report.specs.First.{Step, is_quit, quits as quits_, replies_by}
+use Rattle.psac_session.specs.Answered.{Answer, AnsweredLong, AnsweredTo, AnsweredWhole, IsScript, ReadOut}
+use Rattle.psac_session.specs.Attended.{Attended, AttendedPart, Foretold, Hearing}
+use Rattle.psac_session.specs.Heard.{Heard, IsNext, Outward, Shows, commits, heard_by, heard_where, is_commit, shows_after}
+use Rattle.psac_session.specs.Turned.{BrokeOff, IsExpected, text_of}
+use Rattle.psac_session.proofs.Adding.{Heard-append, Heard-nil}
+use Rattle.psac_session.proofs.Replies.{replies_quit, shows_quit}
+use Rattle.psac_session.proofs.Turn.{Behind, Going, Over, cut_all, cut_whole, grown, heard_then, line_then}
 
 -- what is answered to lines from a state on
 abbrev from_state : World → Step → State → Answer
 from_state w step start lines = replies_by w step lines start
+
+-- what is heard of lines from a state on
+abbrev heard_from : World → Step → State → Hearing
+heard_from w step start lines = shows_after w step lines start
 
 -- what is left of a script that is told
 abbrev rest_of : Option (List ℕ) → List ℕ
@@ -47,45 +57,81 @@ pub consumes_nil : (left : Option (List ℕ)) (bytes : List ℕ) → bytes ≡ [
 consumes_nil None bytes none = tt
 consumes_nil (Some xs) bytes none = rw none refl
 
--- nothing was written
-pub nothing : (answer : Answer) (left before : Option (List ℕ)) → AnsweredPart answer left before before
-nothing answer left before = record { script = rest_of left; is_script = is_rest left; written = (0, omega arith, Appended-nil before) }
+-- nothing was written, and nothing heard
+pub nothing : (answer : Answer) (hearing : Hearing) (left : Option (List ℕ)) (before : Outward) → AttendedPart answer hearing left before before
+nothing answer hearing left before = record {
+  script = rest_of left;
+  is_script = is_rest left;
+  written = (0, omega arith, Appended-nil before.0);
+  count = 0;
+  within = omega arith;
+  heard = Heard-nil before.1;
+}
 
 -- the whole is a part
-pub whole_part : (answer : Answer) (left before now : Option (List ℕ)) → Answered answer left before now → AnsweredPart answer left before now
-whole_part answer left before now all =
+pub whole_part : (answer : Answer) (hearing : Hearing) (left : Option (List ℕ)) (before now : Outward) → Attended answer hearing left before now
+    → AttendedPart answer hearing left before now
+whole_part answer hearing left before now all =
     let text = answer (lines_of all.script) in
+    let shows = hearing (lines_of all.script) in
     record {
       script = all.script;
       is_script = all.is_script;
-      written = (length text, omega arith, subst (λ (xs : List ℕ). Appended before now xs) (sym (take-length text)) all.written);
+      written = (length text, omega arith, subst (λ (xs : List ℕ). Appended before.0 now.0 xs) (sym (take-length text)) all.adds.0);
+      count = length shows;
+      within = omega arith;
+      heard = subst (λ (xs : Shows). Heard before.1 now.1 xs) (sym (take-length shows)) all.adds.1;
     }
 
+get_at : (xs : Shows) (x : Option (List Shown)) (ys : Shows) → slice_get (xs ++ x ∷ ys) (length xs) ≡ Some x
+get_at [] x ys = refl
+get_at (z ∷ xs) x ys = get_at xs x ys
+
+not_both : (command : Option Command) → commits command ≡ true → quits_ command ≡ false
+not_both (Some Commit) is = refl
+not_both _ is = absurd (cc)
+
+no_quit_commit : (text : List ℕ) → is_commit text ≡ true → is_quit text ≡ false
+no_quit_commit text is = not_both (command_of text) is
+
 module _ (w : World) (step : Step) (start : State) where
-  reported : (bytes more : List ℕ) (given : ℕ) (s : State) (before now : Option (List ℕ)) → (g : Going w step start bytes given s before now)
+  reported : (bytes more : List ℕ) (given : ℕ) (s : State) (before now : Outward) → (g : Going w step start bytes given s before now)
       → replies_by w step (lines_of (bytes ++ more)) start ≡ g.done ++ replies_by w step (lines_of (drop given (bytes ++ more))) s
   reported bytes more given s before now g =
       ap (λ (ls : List (List ℕ)). replies_by w step ls start) (cut_all bytes more given g.lines g.within g.cut)
       ∙ sym (g.rest (lines_of (drop given (bytes ++ more))))
 
+  heard_whole : (bytes more : List ℕ) (given : ℕ) (s : State) (before now : Outward) → (g : Going w step start bytes given s before now)
+      → shows_after w step (lines_of (bytes ++ more)) start ≡ g.seen ++ shows_after w step (lines_of (drop given (bytes ++ more))) s
+  heard_whole bytes more given s before now g =
+      ap (λ (ls : List (List ℕ)). shows_after w step ls start) (cut_all bytes more given g.lines g.within g.cut)
+      ∙ sym (g.rest_seen (lines_of (drop given (bytes ++ more))))
+
   -- where the lines that were given are answered
-  pub part_going : (bytes bytes' : List ℕ) (first left left' : Option (List ℕ)) (n n' given : ℕ) (s : State) (before now : Option (List ℕ))
+  pub part_going : (bytes bytes' : List ℕ) (first left left' : Option (List ℕ)) (n n' given : ℕ) (s : State) (before now : Outward)
       → Grew bytes bytes' left left' n n' → Consumes first left' bytes' → Going w step start bytes given s before now
-      → AnsweredPart (from_state w step start) first before now
+      → AttendedPart (from_state w step start) (heard_from w step start) first before now
   part_going bytes bytes' first left left' n n' given s before now grew took going =
       let g = grown w step start bytes grew.got bytes' given s before now grew.bytes going in
       let more = replies_by w step (lines_of (drop given (bytes' ++ rest_of left'))) s in
       let whole = reported bytes' (rest_of left') given s before now g in
       let same : g.done ≡ take (length g.done) (replies_by w step (lines_of (bytes' ++ rest_of left')) start) =
       sym (ap (take (length g.done)) whole ∙ take-append_seam g.done more) in
+      let later = shows_after w step (lines_of (drop given (bytes' ++ rest_of left'))) s in
+      let all = heard_whole bytes' (rest_of left') given s before now g in
+      let front : g.seen ≡ take (length g.seen) (shows_after w step (lines_of (bytes' ++ rest_of left')) start) =
+      sym (ap (take (length g.seen)) all ∙ take-append_seam g.seen later) in
       record {
         script = bytes' ++ rest_of left';
         is_script = is_script first left' bytes' took;
-        written = (length g.done, omega (arith, ap length whole, length-append g.done more), subst (λ (xs : List ℕ). Appended before now xs) same g.written);
+        written = (length g.done, omega (arith, ap length whole, length-append g.done more), subst (λ (xs : List ℕ). Appended before.0 now.0 xs) same g.adds.0);
+        count = length g.seen;
+        within = omega (arith, ap length all, length-append g.seen later);
+        heard = subst (λ (xs : Shows). Heard before.1 now.1 xs) front g.adds.1;
       }
 
   -- a line that was given is the next one of the script
-  next_of : (bytes : List ℕ) (left' : Option (List ℕ)) (given given' : ℕ) (ended' : Bool) (s : State) (before now : Option (List ℕ)) (text : List ℕ)
+  next_of : (bytes : List ℕ) (left' : Option (List ℕ)) (given given' : ℕ) (ended' : Bool) (s : State) (before now : Outward) (text : List ℕ)
       → (g : Going w step start bytes given s before now) → GivesLine bytes given given' ended' text → (ended' ≡ true → IsAtEnd left')
       → (more : List (List ℕ)) × (lines_of (bytes ++ rest_of left') ≡ g.lines ++ text ∷ more)
   next_of bytes left' given given' ended' s before now text g (inl whole) at_end = (
@@ -100,47 +146,65 @@ module _ (w : World) (step : Step) (start : State) where
   )
 
   -- a first part of the reply to a line was written
-  pub part_wrote : (bytes bytes' : List ℕ) (first left left' : Option (List ℕ)) (n n' given given' : ℕ) (ended' : Bool) (s s' : State) (before now after : Option (List ℕ)) (text out : List ℕ)
+  pub part_wrote : (bytes bytes' : List ℕ) (first left left' : Option (List ℕ)) (n n' given given' : ℕ) (ended' : Bool) (s : State) (before now after : Outward) (text : List ℕ)
       → Grew bytes bytes' left left' n n' → Consumes first left' bytes' → (ended' ≡ true → IsAtEnd left') → GivesLine bytes' given given' ended' text
-      → Told w step s s' text out → AppendedPart now after out → Going w step start bytes given s before now → AnsweredPart (from_state w step start) first before after
-  part_wrote bytes bytes' first left left' n n' given given' ended' s s' before now after text out grew took at_end line told part going =
+      → BrokeOff w step s text now after → Going w step start bytes given s before now
+      → AttendedPart (from_state w step start) (heard_from w step start) first before after
+  part_wrote bytes bytes' first left left' n n' given given' ended' s before now after text grew took at_end line broke going =
       let g = grown w step start bytes grew.got bytes' given s before now grew.bytes going in
       let next = next_of bytes' left' given given' ended' s before now text g line at_end in
+      let s' = (step s (command_of text)).0 in
+      let out = text_of w (step s (command_of text)) in
+      let hear = heard_by w (command_of text) s' in
       let more = replies_by w step next.0 s' in
+      let later = shows_after w step next.0 s' in
+      let part = broke.written in
       let report = replies_by w step (lines_of (bytes' ++ rest_of left')) start in
+      let shows = shows_after w step (lines_of (bytes' ++ rest_of left')) start in
       let whole : report ≡ g.done ++ (out ++ more) =
       ap (λ (ls : List (List ℕ)). replies_by w step ls start) next.1 ∙ sym (g.rest (text ∷ next.0))
-      ∙ ap (λ (xs : List ℕ). g.done ++ xs) (line_then w step text out next.0 s s' told.other told.state told.text) in
+      ∙ ap (λ (xs : List ℕ). g.done ++ xs) (line_then w step text out next.0 s s' broke.other refl refl) in
       let front : take (length g.done + part.0) report ≡ g.done ++ take part.0 out =
       ap (take (length g.done + part.0)) whole ∙ take-append-add g.done (out ++ more) part.0
       ∙ ap (λ (xs : List ℕ). g.done ++ xs) (take-append-le part.0 out more part.1) in
+      let all : shows ≡ (g.seen ++ hear) ++ later =
+      ap (λ (ls : List (List ℕ)). shows_after w step ls start) next.1 ∙ sym (g.rest_seen (text ∷ next.0))
+      ∙ ap (λ (xs : Shows). g.seen ++ xs) (heard_then w step text next.0 s s' broke.other refl) ∙ sym (append_assoc g.seen hear later) in
+      let heard : g.seen ++ hear ≡ take (length (g.seen ++ hear)) shows =
+      sym (ap (take (length (g.seen ++ hear))) all ∙ take-append_seam (g.seen ++ hear) later) in
       record {
         script = bytes' ++ rest_of left';
         is_script = is_script first left' bytes' took;
         written = (
           length g.done + part.0,
           omega (arith, ap length whole, length-append g.done (out ++ more), length-append out more, part.1),
-          subst (λ (xs : List ℕ). Appended before after xs) (sym front) (Appended-append before now after g.done (take part.0 out) g.written part.2),
+          subst (λ (xs : List ℕ). Appended before.0 after.0 xs) (sym front) (Appended-append before.0 now.0 after.0 g.done (take part.0 out) g.adds.0 part.2),
         );
+        count = length (g.seen ++ hear);
+        within = omega (arith, ap length all, length-append (g.seen ++ hear) later);
+        heard = subst (λ (xs : Shows). Heard before.1 after.1 xs) heard (Heard-append before.1 now.1 after.1 g.seen hear g.adds.1 broke.heard);
       }
 
   -- `quit` was given
-  pub quits : (bytes bytes' : List ℕ) (first left left' : Option (List ℕ)) (n n' given given' : ℕ) (ended' : Bool) (s : State) (before now : Option (List ℕ)) (text : List ℕ)
+  pub quits : (bytes bytes' : List ℕ) (first left left' : Option (List ℕ)) (n n' given given' : ℕ) (ended' : Bool) (s : State) (before now : Outward) (text : List ℕ)
       → Grew bytes bytes' left left' n n' → Consumes first left' bytes' → (ended' ≡ true → IsAtEnd left') → GivesLine bytes' given given' ended' text
-      → is_quit text ≡ true → Going w step start bytes given s before now → Answered (from_state w step start) first before now
+      → is_quit text ≡ true → Going w step start bytes given s before now → Attended (from_state w step start) (heard_from w step start) first before now
   quits bytes bytes' first left left' n n' given given' ended' s before now text grew took at_end line quit going =
       let g = grown w step start bytes grew.got bytes' given s before now grew.bytes going in
       let next = next_of bytes' left' given given' ended' s before now text g line at_end in
       let all : g.done ≡ replies_by w step (lines_of (bytes' ++ rest_of left')) start =
       sym (append-nil g.done) ∙ ap (λ (xs : List ℕ). g.done ++ xs) (sym (replies_quit w step text next.0 s quit)) ∙ g.rest (text ∷ next.0)
       ∙ ap (λ (ls : List (List ℕ)). replies_by w step ls start) (sym next.1) in
+      let shows : g.seen ≡ shows_after w step (lines_of (bytes' ++ rest_of left')) start =
+      sym (append-nil g.seen) ∙ ap (λ (xs : Shows). g.seen ++ xs) (sym (shows_quit w step text next.0 s quit)) ∙ g.rest_seen (text ∷ next.0)
+      ∙ ap (λ (ls : List (List ℕ)). shows_after w step ls start) (sym next.1) in
       record {
         script = bytes' ++ rest_of left';
         is_script = is_script first left' bytes' took;
-        written = subst (λ (xs : List ℕ). Appended before now xs) all g.written;
+        adds = (subst (λ (xs : List ℕ). Appended before.0 now.0 xs) all g.adds.0, subst (λ (xs : Shows). Heard before.1 now.1 xs) shows g.adds.1);
       }
 
-  stops : (bytes : List ℕ) (left' : Option (List ℕ)) (given given' : ℕ) (ended' : Bool) (s : State) (before now : Option (List ℕ)) (text : List ℕ)
+  stops : (bytes : List ℕ) (left' : Option (List ℕ)) (given given' : ℕ) (ended' : Bool) (s : State) (before now : Outward) (text : List ℕ)
       → (g : Going w step start bytes given s before now) → GivesLine bytes given given' ended' text → (ended' ≡ true → IsAtEnd left') → is_quit text ≡ true
       → IsAtEnd left' ⊎ (list_any is_quit (lines_of bytes) ≡ true)
   stops bytes left' given given' ended' s before now text g (inl whole) at_end quit =
@@ -152,7 +216,7 @@ module _ (w : World) (step : Step) (start : State) where
       inr (rw (append-nil bytes) at there)
   stops bytes left' given given' ended' s before now text g (inr last) at_end quit = inl (at_end last.0)
 
-  pub quits_read : (bytes bytes' : List ℕ) (first left left' : Option (List ℕ)) (n n' m m' given given' : ℕ) (ended' : Bool) (s : State) (before now : Option (List ℕ)) (text : List ℕ)
+  pub quits_read : (bytes bytes' : List ℕ) (first left left' : Option (List ℕ)) (n n' m m' given given' : ℕ) (ended' : Bool) (s : State) (before now : Outward) (text : List ℕ)
       → Grew bytes bytes' left left' n n' → Consumes first left' bytes' → m' ≡ m + length bytes' → (ended' ≡ true → IsAtEnd left') → GivesLine bytes' given given' ended' text
       → is_quit text ≡ true → Going w step start bytes given s before now → ReadOut first left' m m'
   quits_read bytes bytes' first left left' n n' m m' given given' ended' s before now text grew took count at_end line quit going =
@@ -160,33 +224,35 @@ module _ (w : World) (step : Step) (start : State) where
       record { bytes = bytes'; took = took; count = count; stop = stops bytes' left' given given' ended' s before now text g line at_end quit }
 
   -- no line was left
-  pub ends : (bytes bytes' : List ℕ) (first left left' : Option (List ℕ)) (n n' given : ℕ) (ended : Bool) (s : State) (before now : Option (List ℕ))
+  pub ends : (bytes bytes' : List ℕ) (first left left' : Option (List ℕ)) (n n' given : ℕ) (ended : Bool) (s : State) (before now : Outward)
       → Grew bytes bytes' left left' n n' → Consumes first left' bytes' → (ended ≡ true → bytes' ≡ bytes) → given ≡ length bytes' → IsAtEnd left'
-      → Going w step start bytes given s before now ⊎ Over w step start bytes given ended before now → Answered (from_state w step start) first before now
+      → Going w step start bytes given s before now ⊎ Over w step start bytes given ended before now → Attended (from_state w step start) (heard_from w step start) first before now
   ends bytes bytes' first left left' n n' given ended s before now grew took still all at_end (inl going) =
       let g = grown w step start bytes grew.got bytes' given s before now grew.bytes going in
       let none : drop given bytes' ≡ [] = drop_all given bytes' (omega (arith, all)) in
       let lines : lines_of bytes' ≡ g.lines ++ [] = cut_whole bytes' given g.lines g.within g.cut ∙ ap (λ (xs : List ℕ). g.lines ++ lines_of xs) none in
       let report : g.done ≡ replies_by w step (lines_of bytes') start =
       sym (append-nil g.done) ∙ g.rest [] ∙ ap (λ (ls : List (List ℕ)). replies_by w step ls start) (sym lines) in
+      let shows : g.seen ≡ shows_after w step (lines_of bytes') start =
+      sym (append-nil g.seen) ∙ g.rest_seen [] ∙ ap (λ (ls : List (List ℕ)). shows_after w step ls start) (sym lines) in
       record {
         script = bytes';
         is_script = whole_script first left' bytes' took at_end;
-        written = subst (λ (xs : List ℕ). Appended before now xs) report g.written;
+        adds = (subst (λ (xs : List ℕ). Appended before.0 now.0 xs) report g.adds.0, subst (λ (xs : Shows). Heard before.1 now.1 xs) shows g.adds.1);
       }
   ends bytes bytes' first left left' n n' given ended s before now grew took still all at_end (inr over) =
       record {
         script = bytes';
         is_script = whole_script first left' bytes' took at_end;
-        written = rw (still over.at_end) over.written;
+        adds = rw (still over.at_end) over.adds;
       }
 
   behind_told : (bytes : List ℕ) (given : ℕ) → Behind bytes given → (given ≡ 0) ⊎ (slice_index bytes (given - 1) ≡ 10)
   behind_told bytes given (inl zero) = inl zero
   behind_told bytes given (inr some) = inr some.1
 
-  answered_to : (bytes : List ℕ) (far given : ℕ) (s : State) (before now : Option (List ℕ)) → Going w step start bytes given s before now → NoFeed bytes given far
-      → AnsweredTo (from_state w step start) bytes far before now
+  answered_to : (bytes : List ℕ) (far given : ℕ) (s : State) (before now : Outward) → Going w step start bytes given s before now → NoFeed bytes given far
+      → AnsweredTo (from_state w step start) bytes far before.0 now.0
   answered_to bytes far given s before now g none =
       let lines : lines_of (take given bytes) ≡ g.lines = rw (append-nil (take given bytes), append-nil g.lines) at (g.cut []) in
       let report : g.done ≡ replies_by w step (lines_of (take given bytes)) start =
@@ -197,22 +263,53 @@ module _ (w : World) (step : Step) (start : State) where
         behind = behind_told bytes given g.behind;
         none = none;
         no_quit = rw lines g.no_quit;
-        written = subst (λ (xs : List ℕ). Appended before now xs) report g.written;
+        written = subst (λ (xs : List ℕ). Appended before.0 now.0 xs) report g.adds.0;
       }
 
   -- a read failed
-  pub breaks : (bytes bytes' : List ℕ) (first left left' : Option (List ℕ)) (n n' given : ℕ) (s : State) (before now : Option (List ℕ))
+  pub breaks : (bytes bytes' : List ℕ) (first left left' : Option (List ℕ)) (n n' given : ℕ) (s : State) (before now : Outward)
       → Grew bytes bytes' left left' n n' → Consumes first left' bytes' → NoFeed bytes' given (length bytes') → Going w step start bytes given s before now
-      → AnsweredWhole (from_state w step start) first left' before now
+      → AnsweredWhole (from_state w step start) first left' before.0 now.0
   breaks bytes bytes' first left left' n n' given s before now grew took none going =
       let g = grown w step start bytes grew.got bytes' given s before now grew.bytes going in
       record { bytes = bytes'; took = took; answered = answered_to bytes' (length bytes') given s before now g none }
 
   -- too much was read
-  pub too_long : (bytes bytes' : List ℕ) (first left left' : Option (List ℕ)) (n n' given : ℕ) (s : State) (before now : Option (List ℕ))
+  pub too_long : (bytes bytes' : List ℕ) (first left left' : Option (List ℕ)) (n n' given : ℕ) (s : State) (before now : Outward)
       → Grew bytes bytes' left left' n n' → Consumes first left' bytes' → length bytes' ≡ 16777217 → NoFeedBeforePiece bytes' given → Going w step start bytes given s before now
-      → AnsweredLong (from_state w step start) first left' before now
+      → AnsweredLong (from_state w step start) first left' before.0 now.0
   too_long bytes bytes' first left left' n n' given s before now grew took long none going =
       let g = grown w step start bytes grew.got bytes' given s before now grew.bytes going in
       let near : NoFeed bytes' given 16773121 = λ k low high feed. none.none k low (omega (arith, none.piece, long)) feed in
       record { bytes = bytes'; took = took; count = long; answered = answered_to bytes' 16773121 given s before now g near }
+
+  next_told : (all : Shows) (heard0 heard : Option Shows) (seen hear later : Shows) (before : Shows) (shown : Option (List Shown)) → all ≡ before ++ ((seen ++ hear) ++ later)
+      → heard0 ≡ Some before → Heard heard0 heard seen → hear ≡ shown ∷ [] → IsNext all heard shown
+  next_told all heard0 None seen hear later before shown is first heard one = tt
+  next_told all heard0 (Some now) seen hear later before shown is first heard one =
+      let told : now ≡ before ++ seen = rw first at heard in
+      let at : all ≡ now ++ shown ∷ later =
+      is ∙ ap (λ (xs : Shows). before ++ xs) (append_assoc seen hear later) ∙ sym (append_assoc before seen (hear ++ later))
+      ∙ ap (λ (xs : Shows). (before ++ seen) ++ (xs ++ later)) one ∙ ap (λ (xs : Shows). xs ++ shown ∷ later) (sym told) in
+      rw at (get_at now shown later)
+
+  -- what a line that is given shows is next of what is to be heard
+  pub foreseen : (bytes bytes' : List ℕ) (first left left' : Option (List ℕ)) (n n' given given' : ℕ) (ended' : Bool) (s : State) (before now : Outward) (text : List ℕ) (course : Option Shows)
+      → Grew bytes bytes' left left' n n' → Consumes first left' bytes' → (ended' ≡ true → IsAtEnd left') → GivesLine bytes' given given' ended' text
+      → IfSome course (Foretold (heard_from w step start) first before.1) → Going w step start bytes given s before now
+      → IsExpected w step s text course now.1
+  foreseen bytes bytes' first left left' n n' given given' ended' s before now text None grew took at_end line told going = tt
+  foreseen bytes bytes' first left left' n n' given given' ended' s before now text (Some all) grew took at_end line told going = λ commits.
+      let g = grown w step start bytes grew.got bytes' given s before now grew.bytes going in
+      let next = next_of bytes' left' given given' ended' s before now text g line at_end in
+      let s' = (step s (command_of text)).0 in
+      let shown = shown_now w s' in
+      let hear = heard_by w (command_of text) s' in
+      let later = shows_after w step next.0 s' in
+      let script : told.script ≡ bytes' ++ rest_of left' = rw told.is_script at (is_script first left' bytes' took) in
+      let whole : shows_after w step (lines_of told.script) start ≡ (g.seen ++ hear) ++ later =
+      ap (λ (xs : List ℕ). shows_after w step (lines_of xs) start) script ∙ ap (λ (ls : List (List ℕ)). shows_after w step ls start) next.1
+      ∙ sym (g.rest_seen (text ∷ next.0))
+      ∙ ap (λ (xs : Shows). g.seen ++ xs) (heard_then w step text next.0 s s' (no_quit_commit text commits) refl) ∙ sym (append_assoc g.seen hear later) in
+      next_told all before.1 now.1 g.seen hear later told.before shown (told.is_told ∙ ap (λ (xs : Shows). told.before ++ xs) whole) told.is_before g.adds.1
+      (ap (λ (is : Bool). heard_where is shown) commits)

@@ -1,7 +1,9 @@
 pub mod Stepped
 pub mod Replies
+pub mod Adding
 pub mod Turn
 pub mod Told
+pub mod Taken
 pub mod Ended
 pub mod FirstText
 pub mod Reports

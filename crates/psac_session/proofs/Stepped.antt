@@ -16,7 +16,7 @@ use Rattle.psac_model.specs.Names.{Name, Heap}
 use Rattle.psac_model.specs.Tree.{Tree, size_of}
 use Rattle.psac_model.specs.Run.{Ran}
 use Rattle.psac_model.specs.Fresh.{World, fresh, judged, outcome, over}
-use Rattle.psac_report.specs.Session.{Kept, Place, Reply, RefusedRange, Nothing, Worked, Faulted, TooLarge, State, after_outcome, committed, gone_stale, is_lost, is_made, place_count, rows_step}
+use Rattle.psac_report.specs.Session.{Place, Reply, RefusedRange, Nothing, Worked, Faulted, TooLarge, State, after_outcome, committed, gone_stale, is_lost, is_made, place_count, rows_step}
 use Rattle.psac_engine.specs.declared.answer.Answer.{Answer}
 use Rattle.psac_engine.specs.declared.answer.Answer.TheVariants as answer
 use Rattle.psac_engine.specs.Commit.{Answers, kept_after}

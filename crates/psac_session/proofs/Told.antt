@@ -3,52 +3,55 @@ use Rattle.std.proofs.Common.{◌≡◌, ℕ, ◌≤◌, ◌<◌, ◌-◌, inl, 
 use Rattle.std.specs.Result.{is_err}
 use Rattle.psac_base.specs.Causes.{Rose}
 use Rattle.psac_base.specs.Lines.{GivesLine}
-use Rattle.psac_model.specs.declared.ends.Caps.{Caps}
 use Rattle.psac_model.specs.Fresh.{World}
 use Rattle.psac_report.specs.Script.{command_of}
 use Rattle.psac_report.specs.Session.{Reply, State}
-use Rattle.psac_report.specs.First.{Step, first_step, is_quit}
-use Rattle.psac_session.specs.Carried.{IsCarried}
+use Rattle.psac_report.specs.First.{Step, is_quit}
+use Rattle.psac_session.specs.Carried.{IsCarried, IsCarriedBy}
+use Rattle.psac_session.specs.Heard.{is_commit}
+use Rattle.psac_session.specs.Turned.{text_of}
 use Rattle.psac_session.specs.declared.desk.Carried.{Carried}
 use Rattle.psac_session.specs.declared.desk.Carried.TheVariants as carried
-use Rattle.psac_session.proofs.Replies.{text_of}
-
--- a line that isn't `quit`, the state behind it and the text of its reply
-pub record Told (w : World) (step : Step) (s s' : State) (line out : List ℕ) : Type 0 where
-  pub other : is_quit line ≡ false
-  pub state : s' ≡ (step s (command_of line)).0
-  pub text : out ≡ text_of w (step s (command_of line))
-
-abbrev is_reply : Carried → Bool
-is_reply carried.Quit = false
-is_reply (carried.Reply text) = true
 
 abbrev items_of : Carried → List ℕ
 items_of carried.Quit = []
-items_of (carried.Reply text) = text.items
+items_of (carried.Reply text told) = text.items
 
-told_by : (w : World) (quit : Bool) (after : State × Reply) (s' : State) (reply : Carried) → IsCarried w quit after s' reply → is_reply reply ≡ true
-    → (quit ≡ false) × (s' ≡ after.0) × (items_of reply ≡ text_of w after)
-told_by w quit after s' carried.Quit is reply_is = absurd (cc)
-told_by w true after s' (carried.Reply text) is reply_is = absurd is
-told_by w false after s' (carried.Reply text) is reply_is = (refl, is.0, is.1)
+abbrev pub is_reply : Carried → Bool
+is_reply carried.Quit = false
+is_reply (carried.Reply text told) = true
 
-quit_by : (w : World) (quit : Bool) (after : State × Reply) (s' : State) (reply : Carried) → IsCarried w quit after s' reply → is_reply reply ≡ false → quit ≡ true
-quit_by w true after s' carried.Quit is quit_is = refl
-quit_by w false after s' carried.Quit is quit_is = absurd is
-quit_by w quit after s' (carried.Reply text) is quit_is = absurd (cc)
+abbrev told_commit : Carried → Bool
+told_commit carried.Quit = false
+told_commit (carried.Reply text told) = told
 
-pub told : (w w0 : World) (caps caps0 : Caps) (s s' : State) (line these : List ℕ) (reply : Carried) → w ≡ w0 → caps ≡ caps0 → line ≡ these
-    → IsCarried w (is_quit line) (first_step w caps s (command_of line)) s' reply → is_reply reply ≡ true
-    → Told w0 (first_step w0 caps0) s s' these (items_of reply)
-told w w0 caps caps0 s s' line these reply same_world same_caps same_line is reply_is =
-    let all = told_by w0 (is_quit these) (first_step w0 caps0 s (command_of these)) s' reply (rw (same_world, same_caps, same_line) at is) reply_is in
-    record { other = all.0; state = all.1; text = all.2 }
+-- a line that isn't `quit`, the state behind it, the text of its reply, and whether it is a commit
+pub record Told (w : World) (step : Step) (s s' : State) (line out : List ℕ) (told : Bool) : Type 0 where
+  pub other : is_quit line ≡ false
+  pub state : s' ≡ (step s (command_of line)).0
+  pub text : out ≡ text_of w (step s (command_of line))
+  pub commit : told ≡ is_commit line
 
-pub told_quit : (w : World) (caps : Caps) (s s' : State) (line these : List ℕ) (reply : Carried) → line ≡ these
-    → IsCarried w (is_quit line) (first_step w caps s (command_of line)) s' reply → is_reply reply ≡ false → is_quit these ≡ true
-told_quit w caps s s' line these reply same_line is quit_is =
-    quit_by w (is_quit these) (first_step w caps s (command_of these)) s' reply (rw same_line at is) quit_is
+told_by : (w : World) (quit is_commit : Bool) (after : State × Reply) (s' : State) (reply : Carried) → IsCarriedBy w quit is_commit after s' reply → is_reply reply ≡ true
+    → (quit ≡ false) × (s' ≡ after.0) × (items_of reply ≡ text_of w after) × (told_commit reply ≡ is_commit)
+told_by w quit is_commit after s' carried.Quit is reply_is = absurd (cc)
+told_by w true is_commit after s' (carried.Reply text told) is reply_is = absurd is
+told_by w false is_commit after s' (carried.Reply text told) is reply_is = (refl, is.0, is.1, is.2)
+
+quit_by : (w : World) (quit is_commit : Bool) (after : State × Reply) (s' : State) (reply : Carried) → IsCarriedBy w quit is_commit after s' reply → is_reply reply ≡ false → quit ≡ true
+quit_by w true is_commit after s' carried.Quit is quit_is = refl
+quit_by w false is_commit after s' carried.Quit is quit_is = absurd is
+quit_by w quit is_commit after s' (carried.Reply text told) is quit_is = absurd (cc)
+
+pub told : (w : World) (step : Step) (s s' : State) (line : List ℕ) (reply : Carried) → IsCarried w (command_of line) (step s (command_of line)) s' reply → is_reply reply ≡ true
+    → Told w step s s' line (items_of reply) (told_commit reply)
+told w step s s' line reply is reply_is =
+    let all = told_by w (is_quit line) (is_commit line) (step s (command_of line)) s' reply is reply_is in
+    record { other = all.0; state = all.1; text = all.2; commit = all.3 }
+
+pub told_quit : (w : World) (step : Step) (s s' : State) (line : List ℕ) (reply : Carried) → IsCarried w (command_of line) (step s (command_of line)) s' reply → is_reply reply ≡ false → is_quit line ≡ true
+told_quit w step s s' line reply is quit_is =
+    quit_by w (is_quit line) (is_commit line) (step s (command_of line)) s' reply is quit_is
 
 -- what a call tells where it answers an error, and where it doesn't
 pub on_err : {T E P : Type 0} (r : Result T E) → is_err r ≡ true → OnErr r P → P

@@ -1,5 +1,5 @@
 -- One turn of a session.
-use Rattle.std.proofs.Common.{◌≡◌, ◌∙◌, ℕ, ◌≤◌, ◌<◌, ◌+◌, ◌-◌, Bool, true, false, List, [], ◌∷◌, ◌++◌, ◌⊎◌, inl, inr, Option, Some, None, length, take, drop, slice_index, refl, ap, sym, subst, arith, append_assoc, length-append, get_or-take}
+use Rattle.std.proofs.Common.{◌≡◌, ◌∙◌, ℕ, ◌≤◌, ◌<◌, ◌+◌, ◌-◌, Bool, true, false, List, [], ◌∷◌, ◌++◌, ◌⊎◌, inl, inr, Option, Some, None, length, take, drop, slice_index, refl, ap, sym, arith, append_assoc, length-append, get_or-take}
 use Rattle.std.specs.List.{list_any, slice_range}
 use Rattle.std.specs.Io.KnownBytes.{Consumes, IsAtEnd}
 use Rattle.std.proofs.lemmas.List.{append-nil, drop_at, drop-take, take-append-le, take-append-drop, take-take, length-take-le}
@@ -7,44 +7,51 @@ use Rattle.std.proofs.lemmas.List.Folds.{list_any-append}
 use Rattle.std.proofs.Math.ListN.{get_or-append}
 use Rattle.psac_base.specs.Feeds.{lines_of, line_text}
 use Rattle.psac_base.specs.Lines.{EndsAtEnd, GivesLast, GivesLine, GivesWhole, Grew}
-use Rattle.psac_base.specs.Outside.{Appended}
 use Rattle.psac_base.proofs.Splits.{last_is_last, whole_is_next}
-use Rattle.psac_base.proofs.Wrote.{Appended-append, Appended-nil}
 use Rattle.psac_model.specs.Fresh.{World}
 use Rattle.psac_report.specs.Script.{command_of}
-use Rattle.psac_report.specs.Session.{State}
+use Rattle.psac_report.specs.Session.{State, shown_now}
 use Rattle.psac_report.specs.First.{Step, is_quit, replies_by}
-use Rattle.psac_session.proofs.Replies.{replies_next, text_of}
+use Rattle.psac_session.specs.Heard.{Adds, Outward, Shows, commits, heard_by, shows_after}
+use Rattle.psac_session.specs.Turned.{text_of}
+use Rattle.psac_session.proofs.Adding.{adds_more, adds_none, one_heard}
+use Rattle.psac_session.proofs.Replies.{replies_next, shows_next}
 
 -- no byte, or the byte before this place ends a line
 abbrev pub Behind : List ℕ → ℕ → Type 0
 Behind bytes given = (given ≡ 0) ⊎ ((0 < given) × (slice_index bytes (given - 1) ≡ 10))
 
 -- the lines that were given are answered, and the state is the one behind them, whatever comes behind what was read
-pub record Going (w : World) (step : Step) (start : State) (bytes : List ℕ) (given : ℕ) (s : State) (before now : Option (List ℕ)) : Type 0 where
+pub record Going (w : World) (step : Step) (start : State) (bytes : List ℕ) (given : ℕ) (s : State) (before now : Outward) : Type 0 where
   pub lines : List (List ℕ)
   pub done : List ℕ
-  pub written : Appended before now done
+  pub seen : Shows
+  pub adds : Adds before now done seen
   pub rest : (more : List (List ℕ)) → done ++ replies_by w step more s ≡ replies_by w step (lines ++ more) start
+  pub rest_seen : (more : List (List ℕ)) → seen ++ shows_after w step more s ≡ shows_after w step (lines ++ more) start
+  pub many : length seen ≤ given
   pub cut : (more : List ℕ) → lines_of (take given bytes ++ more) ≡ lines ++ lines_of more
   pub no_quit : list_any is_quit lines ≡ false
   pub within : given ≤ length bytes
   pub behind : Behind bytes given
 
 -- the last line was answered too
-pub record Over (w : World) (step : Step) (start : State) (bytes : List ℕ) (given : ℕ) (ended : Bool) (before now : Option (List ℕ)) : Type 0 where
-  pub written : Appended before now (replies_by w step (lines_of bytes) start)
+pub record Over (w : World) (step : Step) (start : State) (bytes : List ℕ) (given : ℕ) (ended : Bool) (before now : Outward) : Type 0 where
+  pub adds : Adds before now (replies_by w step (lines_of bytes) start) (shows_after w step (lines_of bytes) start)
   pub all : given ≡ length bytes
   pub at_end : ended ≡ true
 
 -- nothing was read
-pub begins : (w : World) (step : Step) (start : State) (bytes : List ℕ) (given : ℕ) (before : Option (List ℕ)) → bytes ≡ [] → given ≡ 0
+pub begins : (w : World) (step : Step) (start : State) (bytes : List ℕ) (given : ℕ) (before : Outward) → bytes ≡ [] → given ≡ 0
     → Going w step start bytes given start before before
 begins w step start bytes given before none zero = record {
   lines = [];
   done = [];
-  written = Appended-nil before;
+  seen = [];
+  adds = adds_none before;
   rest = λ more. refl;
+  rest_seen = λ more. refl;
+  many = omega arith;
   cut = λ more. rw zero refl;
   no_quit = refl;
   within = omega (arith, zero);
@@ -58,15 +65,18 @@ behind_grown bytes got given within (inr (some, feed)) =
     inr (some, get_or-append bytes got 0 (given - 1) low ∙ feed)
 
 -- more was read
-pub grown : (w : World) (step : Step) (start : State) (bytes got bytes' : List ℕ) (given : ℕ) (s : State) (before now : Option (List ℕ)) → bytes' ≡ bytes ++ got
+pub grown : (w : World) (step : Step) (start : State) (bytes got bytes' : List ℕ) (given : ℕ) (s : State) (before now : Outward) → bytes' ≡ bytes ++ got
     → Going w step start bytes given s before now → Going w step start bytes' given s before now
 grown w step start bytes got bytes' given s before now grew going =
     let front : take given bytes' ≡ take given bytes = rw grew (take-append-le given bytes got going.within) in
     record {
       lines = going.lines;
       done = going.done;
-      written = going.written;
+      seen = going.seen;
+      adds = going.adds;
       rest = going.rest;
+      rest_seen = going.rest_seen;
+      many = going.many;
       cut = λ more. rw front (going.cut more);
       no_quit = going.no_quit;
       within = rw grew (omega (arith, going.within, length-append bytes got));
@@ -135,18 +145,31 @@ pub line_then : (w : World) (step : Step) (text out : List ℕ) (more : List (Li
     → out ≡ text_of w (step s (command_of text)) → replies_by w step (text ∷ more) s ≡ out ++ replies_by w step more s'
 line_then w step text out more s s' other state_is out_is = replies_next w step text more s other ∙ rw (out_is, state_is) refl
 
+-- what is heard of a line that isn't `quit`, and of those behind it
+pub heard_then : (w : World) (step : Step) (text : List ℕ) (more : List (List ℕ)) (s s' : State) → is_quit text ≡ false → s' ≡ (step s (command_of text)).0
+    → shows_after w step (text ∷ more) s ≡ heard_by w (command_of text) s' ++ shows_after w step more s'
+heard_then w step text more s s' other state_is = shows_next w step text more s other ∙ rw state_is refl
+
 -- a whole line was answered
-went_on : (w : World) (step : Step) (start : State) (bytes text out : List ℕ) (from to : ℕ) (s s' : State) (before now after : Option (List ℕ))
+went_on : (w : World) (step : Step) (start : State) (bytes text out : List ℕ) (from to : ℕ) (s s' : State) (before now after : Outward)
     → is_quit text ≡ false → s' ≡ (step s (command_of text)).0 → out ≡ text_of w (step s (command_of text)) → GivesWhole bytes from to text
-    → Going w step start bytes from s before now → Appended now after out → Going w step start bytes to s' before after
+    → Going w step start bytes from s before now → Adds now after out (heard_by w (command_of text) s') → Going w step start bytes to s' before after
 went_on w step start bytes text out from to s s' before now after other state_is out_is whole going wrote = record {
   lines = going.lines ++ text ∷ [];
   done = going.done ++ out;
-  written = Appended-append before now after going.done out going.written wrote;
+  seen = going.seen ++ heard_by w (command_of text) s';
+  adds = adds_more before now after going.done out going.seen (heard_by w (command_of text) s') going.adds wrote;
   rest = λ more.
       append_assoc going.done out (replies_by w step more s')
       ∙ ap (λ (xs : List ℕ). going.done ++ xs) (sym (line_then w step text out more s s' other state_is out_is)) ∙ going.rest (text ∷ more)
       ∙ ap (λ (ls : List (List ℕ)). replies_by w step ls start) (sym (append_assoc going.lines (text ∷ []) more));
+  rest_seen = λ more.
+      append_assoc going.seen (heard_by w (command_of text) s') (shows_after w step more s')
+      ∙ ap (λ (xs : Shows). going.seen ++ xs) (sym (heard_then w step text more s s' other state_is)) ∙ going.rest_seen (text ∷ more)
+      ∙ ap (λ (ls : List (List ℕ)). shows_after w step ls start) (sym (append_assoc going.lines (text ∷ []) more));
+  many =
+      omega
+      (arith, going.many, length-append going.seen (heard_by w (command_of text) s'), one_heard (commits (command_of text)) (shown_now w s'), whole.next, whole.is_end.low);
   cut = cut_next bytes text from to going.lines going.within whole going.cut;
   no_quit = list_any-append is_quit going.lines (text ∷ []) ∙ rw (going.no_quit, other) refl;
   within = omega (arith, whole.next, whole.is_end.high);
@@ -154,25 +177,29 @@ went_on w step start bytes text out from to s s' before now after other state_is
 }
 
 -- the last line was answered
-finished : (w : World) (step : Step) (start : State) (bytes text out : List ℕ) (from to : ℕ) (ended : Bool) (s s' : State) (before now after : Option (List ℕ))
+finished : (w : World) (step : Step) (start : State) (bytes text out : List ℕ) (from to : ℕ) (ended : Bool) (s s' : State) (before now after : Outward)
     → is_quit text ≡ false → s' ≡ (step s (command_of text)).0 → out ≡ text_of w (step s (command_of text)) → ended ≡ true → GivesLast bytes from to text
-    → Going w step start bytes from s before now → Appended now after out → Over w step start bytes to ended before after
+    → Going w step start bytes from s before now → Adds now after out (heard_by w (command_of text) s') → Over w step start bytes to ended before after
 finished w step start bytes text out from to ended s s' before now after other state_is out_is at_end last going wrote =
     let all : lines_of bytes ≡ going.lines ++ text ∷ [] =
     cut_whole bytes from going.lines going.within going.cut ∙ ap (λ (ls : List (List ℕ)). going.lines ++ ls) (last_is_last bytes from to text last) in
     let reply : replies_by w step (text ∷ []) s ≡ out = line_then w step text out [] s s' other state_is out_is ∙ append-nil out in
     let report : going.done ++ out ≡ replies_by w step (lines_of bytes) start =
     ap (λ (xs : List ℕ). going.done ++ xs) (sym reply) ∙ going.rest (text ∷ []) ∙ ap (λ (ls : List (List ℕ)). replies_by w step ls start) (sym all) in
+    let hear = heard_by w (command_of text) s' in
+    let heard : shows_after w step (text ∷ []) s ≡ hear = heard_then w step text [] s s' other state_is ∙ append-nil hear in
+    let shows : going.seen ++ hear ≡ shows_after w step (lines_of bytes) start =
+    ap (λ (xs : Shows). going.seen ++ xs) (sym heard) ∙ going.rest_seen (text ∷ []) ∙ ap (λ (ls : List (List ℕ)). shows_after w step ls start) (sym all) in
     record {
-      written = subst (λ (xs : List ℕ). Appended before after xs) report (Appended-append before now after going.done out going.written wrote);
+      adds = rw (← report, ← shows) (adds_more before now after going.done out going.seen hear going.adds wrote);
       all = last.next;
       at_end = at_end;
     }
 
 -- a line was given and answered
-pub turn : (w : World) (step : Step) (start : State) (bytes bytes' : List ℕ) (left left' : Option (List ℕ)) (n n' given given' : ℕ) (ended ended' : Bool) (before now after : Option (List ℕ)) (text out : List ℕ) (s s' : State)
+pub turn : (w : World) (step : Step) (start : State) (bytes bytes' : List ℕ) (left left' : Option (List ℕ)) (n n' given given' : ℕ) (ended ended' : Bool) (before now after : Outward) (text out : List ℕ) (s s' : State)
     → Grew bytes bytes' left left' n n' → (ended ≡ true → bytes' ≡ bytes) → GivesLine bytes' given given' ended' text
-    → is_quit text ≡ false → s' ≡ (step s (command_of text)).0 → out ≡ text_of w (step s (command_of text)) → Appended now after out
+    → is_quit text ≡ false → s' ≡ (step s (command_of text)).0 → out ≡ text_of w (step s (command_of text)) → Adds now after out (heard_by w (command_of text) s')
     → Going w step start bytes given s before now ⊎ Over w step start bytes given ended before now
     → Going w step start bytes' given' s' before after ⊎ Over w step start bytes' given' ended' before after
 turn w step start bytes bytes' left left' n n' given given' ended ended' before now after text out s s' grew still (inl whole) other state_is out_is wrote (inl going) =
@@ -187,7 +214,7 @@ turn w step start bytes bytes' left left' n n' given given' ended ended' before 
     absurd (omega (arith, ap length (still over.at_end), over.all, last.1.some))
 
 -- where a line was given, the last one wasn't answered before
-pub not_over : (w : World) (step : Step) (start : State) (bytes bytes' : List ℕ) (given given' : ℕ) (ended ended' : Bool) (before now : Option (List ℕ)) (text : List ℕ)
+pub not_over : (w : World) (step : Step) (start : State) (bytes bytes' : List ℕ) (given given' : ℕ) (ended ended' : Bool) (before now : Outward) (text : List ℕ)
     → (ended ≡ true → bytes' ≡ bytes) → GivesLine bytes' given given' ended' text → Over w step start bytes given ended before now → ⊥
 not_over w step start bytes bytes' given given' ended ended' before now text still (inl whole) over =
     omega (arith, ap length (still over.at_end), over.all, whole.is_end.low, whole.is_end.high)
@@ -195,7 +222,7 @@ not_over w step start bytes bytes' given given' ended ended' before now text sti
     omega (arith, ap length (still over.at_end), over.all, last.1.some)
 
 -- nor where there was no answer to whether there is one
-pub not_ended : (w : World) (step : Step) (start : State) (bytes bytes' : List ℕ) (left' : Option (List ℕ)) (given : ℕ) (ended ended' : Bool) (before now : Option (List ℕ))
+pub not_ended : (w : World) (step : Step) (start : State) (bytes bytes' : List ℕ) (left' : Option (List ℕ)) (given : ℕ) (ended ended' : Bool) (before now : Outward)
     → (ended ≡ true → bytes' ≡ bytes) → EndsAtEnd ended ended' left' → ((ended' ≡ true) × (given ≡ length bytes') → ⊥) → Over w step start bytes given ended before now → ⊥
 not_ended w step start bytes bytes' left' given ended ended' before now still (inl same) open_ over =
     open_ (same ∙ over.at_end, over.all ∙ sym (ap length (still over.at_end)))

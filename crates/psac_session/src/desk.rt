@@ -5,11 +5,12 @@ ghost use Rattle.psac_inputs.specs.Batch.{empty_batch, put_all, GoesInto};
 ghost use Rattle.psac_inputs.specs.Texts.{Texts};
 ghost use Rattle.psac_report.specs.Script.{command_of};
 ghost use Rattle.psac_report.specs.Session.{committed, rows_step, set_step};
-ghost use Rattle.psac_report.specs.First.{first_step, is_quit, quits};
+ghost use Rattle.psac_report.specs.First.{first_step, quits};
 ghost use Rattle.psac_script.specs.Commands.{command_view};
 ghost use Rattle.psac_script.specs.Replies.{reply_view};
 ghost use Rattle.psac_engine.specs.Commit.{most_commits};
 ghost use Rattle.psac_engine.specs.Engine.{caps_in, commits_in, grid_in, world_in};
+ghost use Rattle.psac_session.specs.Heard.{commits};
 ghost use Rattle.psac_session.specs.Replied.{IsReplyTo};
 
 use crate::show::{shown_reply, sized_reply};
@@ -31,8 +32,8 @@ pub struct Desk {
 /// What a line came to.
 #[derive(Drop)]
 pub enum Carried {
-    /// The line was carried out, and this is the text of its reply.
-    Reply(Vec<u8>),
+    /// The line was carried out. This is the text of its reply, and whether it is a commit.
+    Reply { text: Vec<u8>, commits: bool },
     /// The line ends the script.
     Quit,
 }
@@ -55,6 +56,16 @@ fn ends_script(command: &Option<Command<'_>>) -> bool
 {
     match command {
         Some(Command::Quit) => true,
+        _ => false,
+    }
+}
+
+// The command is a commit.
+fn is_commit(command: &Option<Command<'_>>) -> bool
+    ensures { result ≡ commits (option_map command_view command.now) }
+{
+    match command {
+        Some(Command::Commit) => true,
         _ => false,
     }
 }
@@ -222,7 +233,7 @@ impl Desk {
     ) -> Result<Carried, NoMemory>
         requires goes { GoesInto self.old.batch (grid_in engine.old) }
         requires few { commits_in engine.old < most_commits }
-        ensures carried { IfOk result (IsCarried (world_in engine.old) (is_quit line.now)
+        ensures carried { IfOk result (IsCarried (world_in engine.old) (command_of line.now)
             (first_step (world_in engine.old) (caps_in engine.old) (state_in engine.old self.old texts.old) (command_of line.now))
             (state_in engine.new self.new texts.new)) }
         ensures goes { OnOk result (GoesInto self.new.batch (grid_in engine.new)) }
@@ -234,8 +245,9 @@ impl Desk {
         if ends_script(&command) {
             return Ok(Carried::Quit);
         }
+        let commits = is_commit(&command);
         let reply = self.answer(rt, alloc, engine, texts, crew, command, gate)?;
         let text = reply_text(alloc, &reply, engine.program(), texts)?;
-        Ok(Carried::Reply(text))
+        Ok(Carried::Reply { text, commits })
     }
 }

@@ -4,9 +4,13 @@
 mod desk;
 mod end;
 mod first;
+mod line;
+mod listener;
 mod show;
 mod turns;
 
 pub use end::SessionEnd;
 pub use first::once;
-pub use turns::session;
+pub use listener::{Listener, Nobody};
+pub use show::shown_reply;
+pub use turns::{session, session_with};

@@ -1,7 +1,6 @@
 use Rattle.psac_inputs.specs.Batch.{put_all}
 use Rattle.psac_engine.specs.Engine.{caps_in, grid_in, kept_in, world_in}
 use Rattle.psac_script.specs.Replies.{reply_view}
-use Rattle.psac_session.specs.State.{state_in}
 use Rattle.psac_session.proofs.Stepped.{commit_step, ok_then}
 use Rattle.psac_session.proofs.desk.Desk.commit.Goals as goal
 

@@ -1,22 +1,24 @@
 use Rattle.std.proofs.Common.{◌≡◌, ◌<◌, length, arith, rules, inl, sym, ◌∙◌, ap, refl, subst, true, false}
-use Rattle.psac_base.specs.Causes.{Rose}
 use Rattle.psac_base.specs.Lines.{bytes_of, given_of, has_ended, is_live}
-use Rattle.psac_base.specs.Outside.{Appended, AppendedPart}
 use Rattle.psac_inputs.specs.Batch.{Batch}
+use Rattle.psac_report.specs.Script.{command_of}
 use Rattle.psac_report.specs.First.{first_step, is_quit}
 use Rattle.psac_engine.specs.Engine.{caps_in, world_in}
-use Rattle.psac_session.specs.declared.desk.Carried.TheVariants as carried
+use Rattle.psac_session.specs.Heard.{Outward}
 use Rattle.psac_session.specs.State.{opening, state_in, state_with}
-use Rattle.psac_session.proofs.Told.{given_more, on_err, on_ok, rose_since, smaller, told, told_quit}
+use Rattle.psac_session.specs.Turned.{text_of}
+use Rattle.psac_session.proofs.Adding.{room_left}
+use Rattle.psac_session.proofs.Taken.{adds_at, broke_at, expected_at, took_at}
+use Rattle.psac_session.proofs.Told.{given_more, rose_since, smaller}
 use Rattle.psac_session.proofs.Turn.{Going, begins, counted, end_noted, not_ended, not_over, still_going, took_all, turn}
-use Rattle.psac_session.proofs.Ended.{breaks, consumes_nil, ends, nothing, part_going, part_wrote, quits, quits_read, too_long, whole_part}
-use Rattle.psac_session.proofs.turns.session.Goals as goal
+use Rattle.psac_session.proofs.Ended.{breaks, consumes_nil, ends, foreseen, nothing, part_going, part_wrote, quits, quits_read, too_long, whole_part}
+use Rattle.psac_session.proofs.turns.session_with.Goals as goal
 
 pub returns-in_default-clause-part : goal.returns-in_default-clause-part
-returns-in_default-clause-part g c = nothing _ _ _
+returns-in_default-clause-part g c = nothing _ _ _ _
 
 pub returns-in_default-new-clause-part : goal.returns-in_default-new-clause-part
-returns-in_default-new-clause-part g c = nothing _ _ _
+returns-in_default-new-clause-part g c = nothing _ _ _ _
 
 pub turns-init : goal.turns-init
 turns-init g c =
@@ -24,27 +26,61 @@ turns-init g c =
     let w = world_in e in
     let step = first_step w (caps_in e) in
     let start = opening e c.args.texts.now in
-    let held = g.K.Sink.held c.args.out.now in
+    let begun : Outward = (g.K.Sink.held c.args.out.now, g.L.Listener.heard c.args.listener.now) in
     let bytes = bytes_of c.in-Ok.lines in
     let given = given_of c.in-Ok.lines in
     record {
       live = c.in-Ok.ensures.live;
       state = inl
-          (subst (λ (b : Batch). Going w step start bytes given (state_with e b c.args.texts.now) held held) (sym c.in-Ok-new.ensures.empty)
-          (begins w step start bytes given held c.in-Ok.ensures.bytes c.in-Ok.ensures.given));
+          (subst (λ (b : Batch). Going w step start bytes given (state_with e b c.args.texts.now) begun begun) (sym c.in-Ok-new.ensures.empty)
+          (begins w step start bytes given begun c.in-Ok.ensures.bytes c.in-Ok.ensures.given));
       source = consumes_nil _ bytes c.in-Ok.ensures.bytes;
       count = omega (arith, ap length c.in-Ok.ensures.bytes);
       at_end = λ ended. absurd (let bad : false ≡ true = sym c.in-Ok.ensures.ended ∙ ended in cc);
       later = omega arith;
       later_out = omega arith;
       few = omega arith;
+      course = refl;
       goes = c.in-Ok-new.ensures.goes;
       world = refl;
       caps = refl;
     }
 
-pub returns-then-is_err-clause-part : goal.returns-then-is_err-clause-part
-returns-then-is_err-clause-part g c =
+pub take_line-requires-clause-room : goal.take_line-requires-clause-room
+take_line-requires-clause-room g c = λ _ _.
+    let e = c.args.engine.now in
+    let w = world_in e in
+    let step = first_step w (caps_in e) in
+    let start = opening e c.args.texts.now in
+    let i = c.turns.invariant in
+    let n = c.in-Ok-true.ensures in
+    let line = n.line (search rules) in
+    let going = still_going _ _ (not_over w step start _ _ _ _ _ _ _ _ _ (λ over. (n.still over).1) line) i.state in
+    let live : is_live c.next_line.new.self ≡ true = search rules in
+    let short : length (bytes_of c.next_line.new.self) < 16777217 =
+    omega (arith, c.next_line.new.self.short live, c.next_line.new.self.bytes.ok) in
+    let few : given_of c.turns.lines < 16777217 = omega (arith, smaller _ _ _ _ _ line short) in
+    room_left _ _ going.seen (given_of c.turns.lines) c.requires.room going.adds.1 going.many few
+
+pub take_line-requires-clause-expected : goal.take_line-requires-clause-expected
+take_line-requires-clause-expected g c = λ _ _.
+    let e = c.args.engine.now in
+    let w = world_in e in
+    let step = first_step w (caps_in e) in
+    let start = opening e c.args.texts.now in
+    let i = c.turns.invariant in
+    let n = c.in-Ok-true.ensures in
+    let took = took_all _ _ _ _ _ _ _ n.grew i.source in
+    let line = n.line (search rules) in
+    let at_end = end_noted _ _ _ _ n.ended i.at_end (λ over. ap g.S.Source.left (n.still over).0) in
+    let going = still_going _ _ (not_over w step start _ _ _ _ _ _ _ _ _ (λ over. (n.still over).1) line) i.state in
+    let s = state_in c.turns.engine c.turns.desk c.turns.texts in
+    let now : Outward = (g.K.Sink.held c.turns.out, g.L.Listener.heard c.turns.listener) in
+    expected_at (world_in c.turns.engine) w (caps_in c.turns.engine) (caps_in e) s _ _ _ _ _ i.world i.caps c.deref.ensures.value i.course
+    (foreseen w step start _ _ _ _ _ _ _ _ _ _ s _ now c.next_line.new.line.items (g.L.Listener.course c.args.listener.now) n.grew took at_end line c.requires.course going)
+
+pub returns-in-SinkFailed-clause-part : goal.returns-in-SinkFailed-clause-part
+returns-in-SinkFailed-clause-part g c =
     let e = c.args.engine.now in
     let w = world_in e in
     let step = first_step w (caps_in e) in
@@ -57,18 +93,11 @@ returns-then-is_err-clause-part g c =
     let going = still_going _ _ (not_over w step start _ _ _ _ _ _ _ _ _ (λ over. (n.still over).1) line) i.state in
     let these = c.next_line.new.line.items in
     let s = state_in c.turns.engine c.turns.desk c.turns.texts in
-    let s' = state_in c.one_line.new.engine c.one_line.new.self c.one_line.new.texts in
-    let reply = rw c.in-Ok-Reply.field-0-is at c.in-Ok-Reply.ensures.carried in
-    let told_ = told (world_in c.turns.engine) w (caps_in c.turns.engine) (caps_in e) s s' c.deref.result.now these (carried.Reply c.in-Ok-Reply.text) i.world i.caps c.deref.ensures.value reply refl in
-    let part : AppendedPart (g.K.Sink.held c.turns.out) (g.K.Sink.held c.write_whole.new.out) c.in-Ok-Reply.text.items =
-    rw c.deref-in-Ok-Reply.ensures.value at (on_err c.write_whole.result (sym c.is_err.ensures.value ∙ c.if-is_err.true) c.write_whole.ensures.part) in
-    part_wrote w step start _ _ _ _ _ _ _ _ _ _ s s' _ _ _ these c.in-Ok-Reply.text.items n.grew took at_end line told_ part going
+    let broke = broke_at (world_in c.turns.engine) w (caps_in c.turns.engine) (caps_in e) s c.deref.result.now these _ _ i.world i.caps c.deref.ensures.value (c.in-SinkFailed.ensures.part refl) in
+    part_wrote w step start _ _ _ _ _ _ _ _ _ _ s _ _ _ these n.grew took at_end line broke going
 
-pub returns-then-is_err-clause-sink : goal.returns-then-is_err-clause-sink
-returns-then-is_err-clause-sink g c = λ _.
-    let rose : Rose (g.K.Sink.faults c.turns.out) (g.K.Sink.faults c.write_whole.new.out) =
-    on_err c.write_whole.result (sym c.is_err.ensures.value ∙ c.if-is_err.true) c.write_whole.ensures.cause.failed in
-    rose_since _ _ _ c.turns.invariant.later_out rose
+pub returns-in-SinkFailed-clause-sink : goal.returns-in-SinkFailed-clause-sink
+returns-in-SinkFailed-clause-sink g c = λ _. rose_since _ _ _ c.turns.invariant.later_out (c.in-SinkFailed.ensures.sink refl)
 
 pub turns-smaller : goal.turns-smaller
 turns-smaller g c =
@@ -91,28 +120,30 @@ turns-preserved g c =
     let line = n.line (search rules) in
     let these = c.next_line.new.line.items in
     let s = state_in c.turns.engine c.turns.desk c.turns.texts in
-    let s' = state_in c.one_line.new.engine c.one_line.new.self c.one_line.new.texts in
-    let reply = rw c.in-Ok-Reply.field-0-is at c.in-Ok-Reply.ensures.carried in
-    let told_ = told (world_in c.turns.engine) w (caps_in c.turns.engine) (caps_in e) s s' c.deref.result.now these (carried.Reply c.in-Ok-Reply.text) i.world i.caps c.deref.ensures.value reply refl in
-    let wrote : Appended (g.K.Sink.held c.turns.out) (g.K.Sink.held c.write_whole.new.out) c.in-Ok-Reply.text.items =
-    rw c.deref-in-Ok-Reply.ensures.value at (on_ok c.write_whole.result (sym c.is_err.ensures.value ∙ c.if-is_err.false) c.write_whole.ensures.ok) in
+    let s' = state_in c.take_line.new.engine c.take_line.new.desk c.take_line.new.texts in
+    let now : Outward = (g.K.Sink.held c.turns.out, g.L.Listener.heard c.turns.listener) in
+    let after : Outward = (g.K.Sink.held c.take_line.new.out, g.L.Listener.heard c.take_line.new.listener) in
+    let took_line = took_at (world_in c.turns.engine) w (caps_in c.turns.engine) (caps_in e) s s' c.deref.result.now these now after i.world i.caps c.deref.ensures.value (c.in-On.ensures.on refl) in
     let more = given_more _ _ _ _ _ line in
+    let adds = adds_at w step s s' these now after took_line in
     record {
       live = search rules;
-      state = turn w step start _ _ _ _ _ _ _ _ _ _ _ _ _ these c.in-Ok-Reply.text.items s s' n.grew (λ over. (n.still over).1) line told_.other told_.state told_.text wrote i.state;
+      state = turn w step start _ _ _ _ _ _ _ _ _ _ _ _ _ these (text_of w (step s (command_of these))) s s' n.grew (λ over. (n.still over).1) line took_line.other took_line.state refl
+          adds i.state;
       source = took;
       count = counted _ _ _ _ _ _ _ n.grew i.count;
       at_end = end_noted _ _ _ _ n.ended i.at_end (λ over. ap g.S.Source.left (n.still over).0);
       later = omega (arith, n.later, i.later);
-      later_out = omega (arith, c.write_whole.ensures.cause.later, i.later_out);
-      few = omega (arith, i.few, c.one_line.ensures.commits, more);
-      goes = c.in-Ok-Reply.ensures.goes;
-      world = c.one_line.ensures.world ∙ i.world;
-      caps = c.one_line.ensures.caps ∙ i.caps;
+      later_out = omega (arith, c.take_line.ensures.later, i.later_out);
+      few = omega (arith, i.few, c.take_line.ensures.commits, more);
+      course = c.take_line.ensures.course ∙ i.course;
+      goes = c.in-On.ensures.goes refl;
+      world = c.take_line.ensures.world ∙ i.world;
+      caps = c.take_line.ensures.caps ∙ i.caps;
     }
 
-pub returns-in-Ok-Quit-clause-done : goal.returns-in-Ok-Quit-clause-done
-returns-in-Ok-Quit-clause-done g c = λ _.
+pub returns-in-Quit-clause-done : goal.returns-in-Quit-clause-done
+returns-in-Quit-clause-done g c = λ _.
     let e = c.args.engine.now in
     let w = world_in e in
     let step = first_step w (caps_in e) in
@@ -125,13 +156,12 @@ returns-in-Ok-Quit-clause-done g c = λ _.
     let going = still_going _ _ (not_over w step start _ _ _ _ _ _ _ _ _ (λ over. (n.still over).1) line) i.state in
     let these = c.next_line.new.line.items in
     let s = state_in c.turns.engine c.turns.desk c.turns.texts in
-    let s' = state_in c.one_line.new.engine c.one_line.new.self c.one_line.new.texts in
-    let carried_ = rw c.in-Ok-Quit.field-0-is at c.in-Ok-Quit.ensures.carried in
-    let quit : is_quit these ≡ true = told_quit (world_in c.turns.engine) (caps_in c.turns.engine) s s' c.deref.result.now these carried.Quit c.deref.ensures.value carried_ refl in
-    quits w step start _ _ _ _ _ _ _ _ _ _ s _ _ these n.grew took at_end line quit going
+    let end = c.in-Quit.ensures.quit refl in
+    let quit : is_quit these ≡ true = rw c.deref.ensures.value at end.0 in
+    rw (← end.1, ← end.2) at (quits w step start _ _ _ _ _ _ _ _ _ _ s _ _ these n.grew took at_end line quit going)
 
-pub returns-in-Ok-Quit-clause-read : goal.returns-in-Ok-Quit-clause-read
-returns-in-Ok-Quit-clause-read g c = λ _.
+pub returns-in-Quit-clause-read : goal.returns-in-Quit-clause-read
+returns-in-Quit-clause-read g c = λ _.
     let e = c.args.engine.now in
     let w = world_in e in
     let step = first_step w (caps_in e) in
@@ -144,13 +174,12 @@ returns-in-Ok-Quit-clause-read g c = λ _.
     let going = still_going _ _ (not_over w step start _ _ _ _ _ _ _ _ _ (λ over. (n.still over).1) line) i.state in
     let these = c.next_line.new.line.items in
     let s = state_in c.turns.engine c.turns.desk c.turns.texts in
-    let s' = state_in c.one_line.new.engine c.one_line.new.self c.one_line.new.texts in
-    let carried_ = rw c.in-Ok-Quit.field-0-is at c.in-Ok-Quit.ensures.carried in
-    let quit : is_quit these ≡ true = told_quit (world_in c.turns.engine) (caps_in c.turns.engine) s s' c.deref.result.now these carried.Quit c.deref.ensures.value carried_ refl in
+    let end = c.in-Quit.ensures.quit refl in
+    let quit : is_quit these ≡ true = rw c.deref.ensures.value at end.0 in
     quits_read w step start _ _ _ _ _ _ _ _ _ _ _ _ s _ _ these n.grew took (counted _ _ _ _ _ _ _ n.grew i.count) at_end line quit going
 
-pub returns-in-Ok-Quit-clause-part : goal.returns-in-Ok-Quit-clause-part
-returns-in-Ok-Quit-clause-part g c =
+pub returns-in-Quit-clause-part : goal.returns-in-Quit-clause-part
+returns-in-Quit-clause-part g c =
     let e = c.args.engine.now in
     let w = world_in e in
     let step = first_step w (caps_in e) in
@@ -161,10 +190,11 @@ returns-in-Ok-Quit-clause-part g c =
     let line = n.line (search rules) in
     let at_end = end_noted _ _ _ _ n.ended i.at_end (λ over. ap g.S.Source.left (n.still over).0) in
     let going = still_going _ _ (not_over w step start _ _ _ _ _ _ _ _ _ (λ over. (n.still over).1) line) i.state in
-    part_going w step start _ _ _ _ _ _ _ _ _ _ _ n.grew took going
+    let end = c.in-Quit.ensures.quit refl in
+    rw (← end.1, ← end.2) at (part_going w step start _ _ _ _ _ _ _ _ _ _ _ n.grew took going)
 
-pub returns-in-Err-clause-part : goal.returns-in-Err-clause-part
-returns-in-Err-clause-part g c =
+pub returns-in-NoMemory-clause-part : goal.returns-in-NoMemory-clause-part
+returns-in-NoMemory-clause-part g c =
     let e = c.args.engine.now in
     let w = world_in e in
     let step = first_step w (caps_in e) in
@@ -175,7 +205,8 @@ returns-in-Err-clause-part g c =
     let line = n.line (search rules) in
     let at_end = end_noted _ _ _ _ n.ended i.at_end (λ over. ap g.S.Source.left (n.still over).0) in
     let going = still_going _ _ (not_over w step start _ _ _ _ _ _ _ _ _ (λ over. (n.still over).1) line) i.state in
-    part_going w step start _ _ _ _ _ _ _ _ _ _ _ n.grew took going
+    let end = c.in-NoMemory.ensures.memory refl in
+    rw (← end.0, ← end.1) at (part_going w step start _ _ _ _ _ _ _ _ _ _ _ n.grew took going)
 
 pub returns-in-Ok-false-clause-done : goal.returns-in-Ok-false-clause-done
 returns-in-Ok-false-clause-done g c = λ _.
@@ -214,7 +245,7 @@ returns-in-Ok-false-clause-part g c =
     let took = took_all _ _ _ _ _ _ _ n.grew i.source in
     let end = n.end.0 (search rules) in
     let at_end = end_noted _ _ _ _ n.ended i.at_end (λ over. ap g.S.Source.left (n.still over).0) end.0 in
-    whole_part _ _ _ _ (ends w step start _ _ _ _ _ _ _ _ _ _ _ _ n.grew took (λ over. (n.still over).1) end.1 at_end i.state)
+    whole_part _ _ _ _ _ (ends w step start _ _ _ _ _ _ _ _ _ _ _ _ n.grew took (λ over. (n.still over).1) end.1 at_end i.state)
 
 pub returns-in-Err-Failed-clause-part : goal.returns-in-Err-Failed-clause-part
 returns-in-Err-Failed-clause-part g c =
