@@ -1,0 +1,3 @@
+pub mod Showed
+pub mod Published
+pub mod Held
