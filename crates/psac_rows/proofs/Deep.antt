@@ -22,6 +22,10 @@ deep_read_repaired : session_report programs.deep_read_world (caps) (column (3 �
 unfolding opened
 deep_read_repaired = refl
 
+too_deep_read_faults : once_report programs.too_deep_read_world (caps) (column (3 ∷ [])) ([]) ≡ codes "fault depth line 4\n"
+unfolding opened
+too_deep_read_faults = refl
+
 many_pars_counted : session_report programs.many_pars_world (caps) (column ([])) ([]) (codes "commit\nshow\ntree\n") ≡ codes "mode=anew visited=0 rerun=0 inside=70 dropped=0 nodes=422 mods=70 links=70\nout = 70\nS=282 P=70 R=70 mods=70 links=70\n"
 unfolding opened
 many_pars_counted = refl

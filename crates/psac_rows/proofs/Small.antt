@@ -32,6 +32,22 @@ repair_within_the_cap : session_report programs.made_again_world (record caps { 
 unfolding opened
 repair_within_the_cap = refl
 
+anew_where_over_the_cap_of_modifiables : session_report programs.made_again_world (record caps { mods = 2 }) (column (11 ∷ [])) ([]) (codes "commit\nshow\nset 0 0 12\ncommit\nshow\n") ≡ codes "mode=anew visited=0 rerun=0 inside=3 dropped=0 nodes=6 mods=2 links=3\nout = 1\nmode=anew visited=0 rerun=0 inside=3 dropped=0 nodes=6 mods=2 links=3\nout = 1\n"
+unfolding opened
+anew_where_over_the_cap_of_modifiables = refl
+
+repair_within_the_cap_of_modifiables : session_report programs.made_again_world (record caps { mods = 3 }) (column (11 ∷ [])) ([]) (codes "commit\nshow\nset 0 0 12\ncommit\nshow\n") ≡ codes "mode=anew visited=0 rerun=0 inside=3 dropped=0 nodes=6 mods=2 links=3\nout = 1\nmode=repair visited=4 rerun=2 inside=1 dropped=1 nodes=2 mods=1 links=1\nout = 1\n"
+unfolding opened
+repair_within_the_cap_of_modifiables = refl
+
+anew_where_over_the_cap_of_reads : session_report programs.made_again_world (record caps { links = 3 }) (column (11 ∷ [])) ([]) (codes "commit\nshow\nset 0 0 12\ncommit\nshow\n") ≡ codes "mode=anew visited=0 rerun=0 inside=3 dropped=0 nodes=6 mods=2 links=3\nout = 1\nmode=anew visited=0 rerun=0 inside=3 dropped=0 nodes=6 mods=2 links=3\nout = 1\n"
+unfolding opened
+anew_where_over_the_cap_of_reads = refl
+
+repair_within_the_cap_of_reads : session_report programs.made_again_world (record caps { links = 4 }) (column (11 ∷ [])) ([]) (codes "commit\nshow\nset 0 0 12\ncommit\nshow\n") ≡ codes "mode=anew visited=0 rerun=0 inside=3 dropped=0 nodes=6 mods=2 links=3\nout = 1\nmode=repair visited=4 rerun=2 inside=1 dropped=1 nodes=2 mods=1 links=1\nout = 1\n"
+unfolding opened
+repair_within_the_cap_of_reads = refl
+
 full_each_time : session_report programs.made_again_world (record caps { nodes = 5 }) (column (11 ∷ [])) ([]) (codes "commit\nset 0 0 12\ncommit\nshow\n") ≡ codes "full\nfull\nnone\n"
 unfolding opened
 full_each_time = refl

@@ -47,3 +47,11 @@ tight_caps = refl
 one_node_too_few : session_report programs.sum_world (record { nodes = 33; mods = 6; links = 10 }) (column (1 ∷ 2 ∷ 3 ∷ 4 ∷ [])) ([]) (codes "commit\nshow\n") ≡ codes "full\nnone\n"
 unfolding opened
 one_node_too_few = refl
+
+one_modifiable_too_few : session_report programs.sum_world (record { nodes = 34; mods = 5; links = 10 }) (column (1 ∷ 2 ∷ 3 ∷ 4 ∷ [])) ([]) (codes "commit\nshow\n") ≡ codes "full\nnone\n"
+unfolding opened
+one_modifiable_too_few = refl
+
+one_read_too_few : session_report programs.sum_world (record { nodes = 34; mods = 6; links = 9 }) (column (1 ∷ 2 ∷ 3 ∷ 4 ∷ [])) ([]) (codes "commit\nshow\n") ≡ codes "full\nnone\n"
+unfolding opened
+one_read_too_few = refl

@@ -1,0 +1,13 @@
+pub mod Rounds
+pub mod Plain
+pub mod Alike
+pub mod Looks
+pub mod Found
+pub mod Outputs
+pub mod Fits
+pub mod Names
+pub mod Takes
+pub mod Lean
+pub mod Samples
+pub mod Digits
+pub mod Blanks
