@@ -46,10 +46,13 @@ IsIn range n = (range.least ≤ n) × (n ≤ range.most)
 abbrev pub within : Range → ℕ → Option ℕ
 within range n = if nat_le range.least n && nat_le n range.most then Some n else None
 
--- a setting is one to nine decimal digits of a number in its range
+-- one to nine decimal digits of a number in its range
+abbrev pub number_within : Range → List ℕ → Option ℕ
+number_within range word = option_and_then (within range) (number word)
+
 abbrev pub setting : Range → Option (List ℕ) → Option ℕ
 setting range None = Some range.default
-setting range (Some word) = option_and_then (within range) (number word)
+setting range (Some word) = number_within range word
 
 infixl 10 ◌>>=◌
 abbrev pub ◌>>=◌ : {A B : Type 0} → Option A → (A → Option B) → Option B
@@ -108,7 +111,7 @@ abbrev pub asked_by : Given → Option Asked
 asked_by texts = asked_in (option_and_then mode_of texts.mode) texts
 
 -- what words of the command's form ask for; others ask for nothing
-abbrev pub in_form : (Given → Option Asked) → List (List ℕ) → Option Asked
+abbrev pub in_form : {A : Type 0} → (Given → Option A) → List (List ℕ) → Option A
 in_form by words = if is_taken words then by (given_by words) else None
 
 -- what the words ask for, where they are of the command's form and every text and number is one
@@ -125,3 +128,14 @@ watched_by texts = asked_in (option_and_then watch_mode_of texts.mode) texts
 -- the session that the words ask to be watched
 unfoldable pub watch_asked : List (List ℕ) → Option Asked
 watch_asked words = in_form watched_by words
+
+-- one run may have a mode of its own, by this name
+abbrev pub single_mode_of : List ℕ → List ℕ → Option Mode
+single_mode_of name word = if bytes_eq word name then Some Once else None
+
+abbrev pub single_by : List ℕ → Given → Option Asked
+single_by name texts = asked_in (option_and_then (single_mode_of name) texts.mode) texts
+
+-- the run that the words ask for by that mode
+unfoldable pub single_asked : List ℕ → List (List ℕ) → Option Asked
+single_asked name words = in_form (single_by name) words

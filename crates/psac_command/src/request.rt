@@ -1,6 +1,6 @@
 // What is asked for.
 ghost use Rattle.std.specs.Prelude.{◌≡◌, IfOk, IfSome, option_and_then, option_map, map, string_bytes};
-ghost use Rattle.psac_command.specs.Asked.{AreCaps, IsIn, asked, asked_in, caps_of, mode_of, settings_of, watch_asked, watch_mode_of, workers};
+ghost use Rattle.psac_command.specs.Asked.{AreCaps, IsIn, asked, asked_in, caps_of, mode_of, settings_of, single_asked, single_mode_of, watch_asked, watch_mode_of, workers};
 ghost use Rattle.psac_command.specs.Views.{request_view, words_view};
 
 use crate::setting::{Bounds, read_setting};
@@ -91,7 +91,7 @@ fn read_caps(words: &Words<'_>) -> Option<Caps>
     })
 }
 
-fn read_settings(words: &Words<'_>) -> Option<Settings>
+pub fn read_settings(words: &Words<'_>) -> Option<Settings>
     ensures value { result ≡ settings_of (words_view words.now) }
     ensures within { IfSome result (λ s. AreCaps s.caps) }
     ensures workers { IfSome result (λ s. IsIn workers s.workers) }
@@ -117,6 +117,17 @@ fn watch_mode_in(words: &Words<'_>) -> Option<Mode>
     match words.mode? {
         "watch" => Some(Mode::Session),
         _ => None,
+    }
+}
+
+// The mode of one run, where the words name it by this word.
+fn single_mode_in(name: &str, words: &Words<'_>) -> Option<Mode>
+    ensures { result ≡ option_and_then (single_mode_of name.now) (words_view words.now).mode }
+{
+    if words.mode? == name {
+        Some(Mode::Once)
+    } else {
+        None
     }
 }
 
@@ -157,6 +168,22 @@ pub fn read_watch_request<'a>(
 {
     match read_words(alloc, words)? {
         Some(texts) => Ok(read_texts(watch_mode_in(&texts), &texts)),
+        None => Ok(None),
+    }
+}
+
+/// Reads the words of one run that has a mode of its own: their mode is this name, and all else is as in `read_request`.
+pub fn read_single_request<'a>(
+    alloc: Global,
+    name: &str,
+    words: &'a [String],
+) -> Result<Option<Request<'a>>, NoMemory>
+    ensures asked { IfOk result (λ found. option_map request_view found ≡ single_asked name.now (map string_bytes words.now)) }
+    ensures within { IfOk result (λ found. IfSome found (λ r. AreCaps r.settings.caps)) }
+    ensures workers { IfOk result (λ found. IfSome found (λ r. IsIn workers r.settings.workers)) }
+{
+    match read_words(alloc, words)? {
+        Some(texts) => Ok(read_texts(single_mode_in(name, &texts), &texts)),
         None => Ok(None),
     }
 }

@@ -17,3 +17,4 @@ pub use opening::{Opened, open};
 pub use program::accept;
 pub use refusal::Refusal;
 pub use status::{NO_MEMORY, Status};
+pub use texts::enter_texts;

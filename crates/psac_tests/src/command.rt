@@ -1,5 +1,7 @@
 use psac_base::NoMemory;
-use psac_command::{Mode, read_request};
+use psac_command::{
+    Mode, TopCall, choose_call, read_bench_request, read_request, read_single_request,
+};
 use std::alloc::Global;
 use std::test::Fail;
 
@@ -69,4 +71,111 @@ fn read_whole(rt: HostRuntime) -> Result<(), Fail> {
     assert!(rt; found.map(|asked| asked.settings.caps.mods) == Some(131_072));
     assert!(rt; found.map(|asked| asked.settings.rows) == Some(4));
     Ok(())
+}
+
+fn is_bench(alloc: Global, line: &str) -> Result<bool, NoMemory> {
+    let words = words_of(alloc, line)?;
+    Ok(read_bench_request(alloc, words.as_slice())?.is_some())
+}
+
+#[test]
+fn bench_taken(rt: HostRuntime) {
+    let alloc = rt.alloc();
+    let lines = [
+        "psac bench p 4x1",
+        "psac bench p 1x0",
+        "psac bench p 65536x1000 --workers 64",
+        "psac bench p 000000004x000000001",
+    ];
+    for line in lines {
+        assert!(rt; matches!(is_bench(alloc, line), Ok(true)));
+    }
+}
+
+#[test]
+fn bench_refused(rt: HostRuntime) {
+    let alloc = rt.alloc();
+    let lines = [
+        "psac once p 4x1",
+        "psac bench p",
+        "psac bench p i.txt",
+        "psac bench p 4",
+        "psac bench p x1",
+        "psac bench p 4x",
+        "psac bench p 4x1x1",
+        "psac bench p 4X1",
+        "psac bench p 0x1",
+        "psac bench p 65537x1",
+        "psac bench p 4x1001",
+        "psac bench p 0000000004x1",
+        "psac bench p 4x1 --workers 65",
+    ];
+    for line in lines {
+        assert!(rt; matches!(is_bench(alloc, line), Ok(false)));
+    }
+}
+
+#[test]
+fn bench_read_whole(rt: HostRuntime) -> Result<(), Fail> {
+    let words = words_of(rt.alloc(), "psac bench p 64x5 --links 7")?;
+    let found = read_bench_request(rt.alloc(), words.as_slice())?;
+    assert!(rt; found.map(|asked| asked.program) == Some("p"));
+    assert!(rt; found.map(|asked| asked.counts.cells) == Some(64));
+    assert!(rt; found.map(|asked| asked.counts.batches) == Some(5));
+    assert!(rt; found.map(|asked| asked.settings.caps.links) == Some(7));
+    Ok(())
+}
+
+fn is_single(alloc: Global, name: &str, line: &str) -> Result<bool, NoMemory> {
+    let words = words_of(alloc, line)?;
+    Ok(read_single_request(alloc, name, words.as_slice())?.is_some())
+}
+
+#[test]
+fn single_taken(rt: HostRuntime) {
+    let alloc = rt.alloc();
+    assert!(rt; is_single(alloc, "dump", "psac dump p i") == Ok(true));
+    assert!(rt; is_single(alloc, "dump", "psac --workers 8 dump p i") == Ok(true));
+}
+
+#[test]
+fn single_refused(rt: HostRuntime) {
+    let alloc = rt.alloc();
+    let lines = [
+        "psac once p i",
+        "psac session p i",
+        "psac certify p i",
+        "psac dump p",
+        "psac dump p i j",
+        "psac dump p i --workers 65",
+    ];
+    for line in lines {
+        assert!(rt; is_single(alloc, "dump", line) == Ok(false));
+    }
+}
+
+#[test]
+fn single_read_whole(rt: HostRuntime) -> Result<(), Fail> {
+    let words = words_of(rt.alloc(), "psac certify p i --links 7")?;
+    let found = read_single_request(rt.alloc(), "certify", words.as_slice())?;
+    assert!(rt; found.map(|asked| asked.mode) == Some(Mode::Once));
+    assert!(rt; found.map(|asked| asked.program) == Some("p"));
+    assert!(rt; found.map(|asked| asked.input) == Some("i"));
+    assert!(rt; found.map(|asked| asked.settings.caps.links) == Some(7));
+    Ok(())
+}
+
+fn is_call(alloc: Global, line: &str, call: TopCall) -> Result<bool, NoMemory> {
+    let words = words_of(alloc, line)?;
+    Ok(choose_call(words.as_slice()) == call)
+}
+
+#[test]
+fn calls(rt: HostRuntime) {
+    let alloc = rt.alloc();
+    assert!(rt; is_call(alloc, "psac once p i", TopCall::Run) == Ok(true));
+    assert!(rt; is_call(alloc, "psac", TopCall::Run) == Ok(true));
+    assert!(rt; is_call(alloc, "psac bench p 4x1", TopCall::Bench) == Ok(true));
+    assert!(rt; is_call(alloc, "psac dump p i j k", TopCall::Dump) == Ok(true));
+    assert!(rt; is_call(alloc, "psac certify p i", TopCall::Certify) == Ok(true));
 }
