@@ -9,10 +9,10 @@ use Rattle.psac_open.specs.Accept.{Breach, IsAccepted, Limit, Refuses, Syntax}
 use Rattle.psac_open.specs.Loaded.{Files}
 use Rattle.psac_run.specs.Answer.{Answers, AreAccepted, HasText, InputRefused, IsInputFile, IsStatus, ProgramRefused, Reported, Usage, Words, Wrote}
 
-same_asked : (a b : Asked) → Some a ≡ Some b → a ≡ b
+pub same_asked : (a b : Asked) → Some a ≡ Some b → a ≡ b
 same_asked a b e = cc
 
-none_asked : (a : Asked) → Some a ≡ None → ⊥
+pub none_asked : (a : Asked) → Some a ≡ None → ⊥
 none_asked a e = cc
 
 ok_not_err : (r : Result (Unit {0}) Fault) (first : Fault) → r ≡ Ok tt → r ≡ Err first → ⊥
@@ -22,7 +22,7 @@ not_met : (p q : Program) (first : Fault) → p ≡ q → meets p ≡ Ok tt → 
 not_met p q first same met broken = ok_not_err (meets p) first met (ap meets same ∙ broken)
 
 -- bytes that are accepted aren't refused
-accepted_not_refused : (bytes text : List ℕ) (p : Program) → IsAccepted bytes p → Refuses bytes text → ⊥
+pub accepted_not_refused : (bytes text : List ℕ) (p : Program) → IsAccepted bytes p → Refuses bytes text → ⊥
 accepted_not_refused bytes text p is (Syntax line column none at told) = none p is.is_program
 accepted_not_refused bytes text p is (Limit which line none at told) = none p is.is_program
 accepted_not_refused bytes text p is (Breach q first program broken told) = not_met p q first (one_program bytes p q is.is_program program) is.is_met broken
@@ -30,7 +30,7 @@ accepted_not_refused bytes text p is (Breach q first program broken told) = not_
 five_not_four : (status : ℕ) → status ≡ 5 → status ≡ 4 → ⊥
 five_not_four status five four = absurd (omega arith)
 
-input_file : (status : ℕ) (files : Files) (a : Asked) (input : List ℕ) → status ≡ 5 → (status ≡ 4) ⊎ IsInputFile files (Some a) input → IsFile files a.input input
+pub input_file : (status : ℕ) (files : Files) (a : Asked) (input : List ℕ) → status ≡ 5 → (status ≡ 4) ⊎ IsInputFile files (Some a) input → IsFile files a.input input
 input_file status files a input five (inl four) = absurd (five_not_four status five four)
 input_file status files a input five (inr is_input) = is_input
 

@@ -4,13 +4,13 @@ use Rattle.psac_base.specs.Outside.{Appended, AppendedPart}
 use Rattle.psac_open.specs.Loaded.{Files}
 use Rattle.psac_run.specs.Answer.{HasPart, HasText, IsAnswer, Words, Wrote, WrotePart}
 
-seven_has_none : HasText 7 → ⊥
+pub seven_has_none : HasText 7 → ⊥
 seven_has_none (inl e) = absurd (omega arith)
 seven_has_none (inr (inl e)) = absurd (omega arith)
 seven_has_none (inr (inr (inl e))) = absurd (omega arith)
 seven_has_none (inr (inr (inr e))) = absurd (omega arith)
 
-text_has_none : (status : ℕ) → HasText status → HasPart status → ⊥
+pub text_has_none : (status : ℕ) → HasText status → HasPart status → ⊥
 text_has_none status (inl e) part = by part
   where
     by : HasPart status → ⊥

@@ -119,6 +119,10 @@ HasPart code = (code ≡ 6) ⊎ (code ≡ 7) ⊎ (code ≡ 8)
 abbrev pub IsStatus : ℕ → Type 0
 IsStatus code = HasText code ⊎ HasPart code ⊎ (code ≡ 3) ⊎ (code ≡ 9)
 
+-- the statuses where the program or the input isn't taken
+abbrev pub IsUntaken : ℕ → Type 0
+IsUntaken code = (code ≡ 3) ⊎ (code ≡ 4) ⊎ (code ≡ 5)
+
 -- the words ask for one run, or for nothing that is known
 abbrev pub IsNoSession : Words → Type 0
 IsNoSession None = Unit {0}

@@ -6,7 +6,7 @@ ghost use Rattle.psac_command.specs.Asked.{AreCaps, Asked, IsIn, asked, workers}
 ghost use Rattle.psac_command.specs.Views.{request_view};
 ghost use Rattle.psac_session.specs.Answered.{AnsweredLong, AnsweredWhole, ReadOut};
 ghost use Rattle.psac_open.specs.Loaded.{HasProgram, RoseFor};
-ghost use Rattle.psac_run.specs.Answer.{AreAccepted, HasPart, HasText, Held, IsNoSession, IsStatus, LoadFailed, Wrote, WrotePart, WroteSome};
+ghost use Rattle.psac_run.specs.Answer.{AreAccepted, HasPart, HasText, Held, IsNoSession, IsStatus, IsUntaken, LoadFailed, Wrote, WrotePart, WroteSome};
 
 use crate::serve::serve;
 use psac_base::{Shelf, Sink, Source};
@@ -45,6 +45,7 @@ fn run_program<Rt: Threads + Sync, F: Shelf, S: Source, K: Sink, G: Gate + Sync>
     ensures shelf { result.code ≡ 3 → RoseFor request.now.input.now (F.faults shelf.old) (F.faults shelf.new) (F.overs shelf.old) (F.overs shelf.new) }
     ensures nothing { result.code ≡ 3 → Appended (K.held out.old) (K.held out.new) [] }
     ensures script { request.now.mode ≡ Mode.Once → script.new ≡ script.old }
+    ensures unread { IsUntaken result.code → script.new ≡ script.old }
     ensures single { request.now.mode ≡ Mode.Once → ((result.code ≡ 6) ⊎ (result.code ≡ 8)) → ⊥ }
     ensures spare { request.now.mode ≡ Mode.Once → result.code ≡ 9 → Appended (K.held out.old) (K.held out.new) [] }
     ensures read { request.now.mode ≡ Mode.Session → result.code ≡ 0
@@ -104,6 +105,7 @@ fn run_request<Rt: Threads + Sync, F: Shelf, S: Source, K: Sink, G: Gate + Sync>
         (F.faults shelf.old) (F.faults shelf.new) (F.overs shelf.old) (F.overs shelf.new) }
     ensures nothing { result.code ≡ 3 → Appended (K.held out.old) (K.held out.new) [] }
     ensures script { request.now.mode ≡ Mode.Once → script.new ≡ script.old }
+    ensures unread { IsUntaken result.code → script.new ≡ script.old }
     ensures single { request.now.mode ≡ Mode.Once → ((result.code ≡ 6) ⊎ (result.code ≡ 8)) → ⊥ }
     ensures spare { request.now.mode ≡ Mode.Once → result.code ≡ 9 → Appended (K.held out.old) (K.held out.new) [] }
     ensures read { request.now.mode ≡ Mode.Session → result.code ≡ 0
@@ -165,6 +167,8 @@ pub fn psac<Rt: Threads + Sync, F: Shelf, S: Source, K: Sink, G: Gate + Sync>(
     // A session that ends well has read its script up to the end, or up to `quit`.
     ensures read { (a : Asked) → asked (map string_bytes words.now.items) ≡ Some a → a.mode ≡ Mode.Session → result.code ≡ 0
         → ReadOut (S.left script.old) (S.left script.new) (S.taken script.old) (S.taken script.new) }
+    // Where the program or the input isn't taken, the script isn't read.
+    ensures unread { IsUntaken result.code → script.new ≡ script.old }
     // Without a session the script isn't read, and where memory ran out nothing was written.
     ensures script { IsNoSession (asked (map string_bytes words.now.items)) → script.new ≡ script.old }
     ensures spare { IsNoSession (asked (map string_bytes words.now.items)) → result.code ≡ 9

@@ -1,0 +1,4 @@
+pub mod Totals
+pub mod Served
+pub mod Answer
+pub mod Made
