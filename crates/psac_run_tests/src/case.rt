@@ -1,5 +1,8 @@
 // A whole run, from the words of a command line.
 use psac_base::{MemShelf, MemSink, MemSource};
+use psac_bench::bench;
+use psac_certify::{certified, dumped};
+use psac_command::{TopCall, choose_call};
 use psac_fork::NoGate;
 use psac_run::psac;
 use std::alloc::{AllocError, Global};
@@ -78,15 +81,28 @@ pub fn ends<Rt: Threads + Abort + Sync>(
     let Ok(mut out) = MemSink::new(alloc, 1000, piece, writes) else {
         return Err(AllocError);
     };
-    let status = psac(
-        rt,
-        alloc,
-        &words,
-        &mut shelf,
-        &mut script,
-        &mut out,
-        &NoGate,
-    );
+    let status = match choose_call(words.as_slice()) {
+        TopCall::Run => psac(
+            rt,
+            alloc,
+            &words,
+            &mut shelf,
+            &mut script,
+            &mut out,
+            &NoGate,
+        ),
+        TopCall::Bench => bench(rt, alloc, &words, &mut shelf, &mut out, &NoGate),
+        TopCall::Dump => dumped(rt, alloc, &words, &mut shelf, &mut out, &NoGate),
+        TopCall::Certify => certified(
+            rt,
+            alloc,
+            &words,
+            &mut shelf,
+            &mut script,
+            &mut out,
+            &NoGate,
+        ),
+    };
     let Some(written) = out.bytes() else {
         return Err(AllocError);
     };

@@ -2,6 +2,8 @@
 #![tactic(auto)]
 
 #[cfg(test)]
+mod bench;
+#[cfg(test)]
 mod case;
 #[cfg(test)]
 mod opening;
@@ -12,9 +14,9 @@ mod plain_runs;
 #[cfg(test)]
 mod programs;
 #[cfg(test)]
-mod run_once;
+mod run_dump;
 #[cfg(test)]
-mod run_session;
+mod run_once;
 #[cfg(test)]
 mod session_at_once;
 #[cfg(test)]
@@ -23,5 +25,3 @@ mod session_full;
 mod session_outside;
 #[cfg(test)]
 mod session_replies;
-#[cfg(test)]
-mod tight;

@@ -1,12 +1,20 @@
+// Both sides of a `par` at once, in a run and in a repair.
+ghost use Rattle.std.specs.Prelude.{◌≡◌};
+ghost use Rattle.psac_engine.specs.Engine.{commits_in};
+
 use crate::opening::{Opening, crew, opened};
 use crate::programs::SUM;
-use psac_fork::{Gate, Side};
-use psac_inputs::Interner;
-use psac_model::Caps;
+use psac_engine::{Answer, Engine};
+use psac_fork::{Crew, Gate, NoGate, Side};
+use psac_inputs::{Batch, Interner};
+use psac_model::{Caps, Mode, Shown, Work};
+use psac_ops::Plain;
 use psac_session::once;
+use std::alloc::Global;
 use std::sync::atomic::AtomicU64;
 use std::sync::atomic::Ordering::SeqCst;
 use std::test::Fail;
+use std::thread::Threads;
 
 const TURNS: u64 = 100_000_000;
 
@@ -15,6 +23,19 @@ const TURNS: u64 = 100_000_000;
 struct Holds {
     right_in: AtomicU64,
     saw_right: AtomicU64,
+}
+
+impl Holds {
+    fn new() -> Holds {
+        Holds {
+            right_in: AtomicU64::new(0),
+            saw_right: AtomicU64::new(0),
+        }
+    }
+
+    fn has_seen_right(&self) -> bool {
+        self.saw_right.load(SeqCst) == 1
+    }
 }
 
 impl Gate for Holds {
@@ -32,14 +53,9 @@ impl Gate for Holds {
     }
 }
 
-// With two workers the right side of a par begins while the left one waits for it.
-#[test]
-fn both_sides_run_at_once(rt: HostRuntime) -> Result<(), Fail> {
-    let alloc = rt.alloc();
-    let Ok(mut texts) = Interner::new(alloc) else {
-        return Err("memory")?;
-    };
-    let opening = Opening {
+// The sum of two cells, with room for its record and no more.
+fn sum_of_two() -> Opening<'static> {
+    Opening {
         program: SUM,
         input: "1\n2\n",
         room: 2,
@@ -49,16 +65,66 @@ fn both_sides_run_at_once(rt: HostRuntime) -> Result<(), Fail> {
             links: 4,
         },
         workers: 2,
+    }
+}
+
+// With two workers the right side of a par begins while the left one waits for it.
+#[test]
+fn both_sides_run_at_once(rt: HostRuntime) -> Result<(), Fail> {
+    let alloc = rt.alloc();
+    let Ok(mut texts) = Interner::new(alloc) else {
+        return Err("memory")?;
     };
-    let mut engine = opened(alloc, &opening, &mut texts)?;
-    let gate = Holds {
-        right_in: AtomicU64::new(0),
-        saw_right: AtomicU64::new(0),
-    };
+    let mut engine = opened(alloc, &sum_of_two(), &mut texts)?;
+    let gate = Holds::new();
     let Ok(text) = once(&rt, alloc, &mut engine, &texts, &crew(2)?, &gate) else {
         return Err("memory")?;
     };
     assert_eq!(rt; text.as_slice(), b"out = 3\n".as_slice());
-    assert!(rt; gate.saw_right.load(SeqCst) == 1);
+    assert!(rt; gate.has_seen_right());
+    Ok(())
+}
+
+// The engine's first commit, and a second one in which both cells change, under the gate.
+fn repaired<Rt: Threads + Sync>(
+    rt: &Rt,
+    alloc: Global,
+    engine: &mut Engine,
+    crew: &Crew,
+    gate: &Holds,
+) -> Result<Result<Work, Answer>, Fail>
+    requires { commits_in engine.old ≡ 0 }
+{
+    let Ok(mut batch) = Batch::new(alloc, engine.grid()) else {
+        return Err("memory")?;
+    };
+    if engine.commit(rt, &mut batch, crew, &NoGate).is_err() {
+        return Err("the first commit")?;
+    }
+    if batch.set(0, 0, Plain::Int(10)).is_err() || batch.set(1, 0, Plain::Int(20)).is_err() {
+        return Err("no such cells")?;
+    }
+    Ok(engine.commit(rt, &mut batch, crew, gate))
+}
+
+// The same in a repair, whose walk comes to both sides.
+#[test]
+fn both_sides_are_repaired_at_once(rt: HostRuntime) -> Result<(), Fail> {
+    let alloc = rt.alloc();
+    let Ok(mut texts) = Interner::new(alloc) else {
+        return Err("memory")?;
+    };
+    let mut engine = opened(alloc, &sum_of_two(), &mut texts)?;
+    let gate = Holds::new();
+    let told = repaired(&rt, alloc, &mut engine, &crew(2)?, &gate)?;
+    let Ok(work) = told else {
+        return Err("the second commit")?;
+    };
+    assert!(rt; work.mode == Mode::Repair && work.rerun == 3);
+    let Ok(Some(shown)) = engine.shown() else {
+        return Err("memory")?;
+    };
+    assert!(rt; shown.as_slice() == [Shown::Int(30)].as_slice());
+    assert!(rt; gate.has_seen_right());
     Ok(())
 }

@@ -1,0 +1,5 @@
+pub mod Recorded
+pub mod Finished
+pub mod Gives
+pub mod Complete
+pub mod Reading
