@@ -19,10 +19,9 @@ front_page() {
         *) return 0 ;;
     esac
     case $topic in
-        help | once | session | language | script | hints) cat "$front/pages/$topic.txt"; exit ;;
-        bench) echo "psac: the mode bench isn't there yet" >&2; exit 2 ;;
+        help | once | session | bench | dump | certify | language | script | hints) cat "$front/pages/$topic.txt"; exit ;;
     esac
-    echo "psac: there is no page '$2'; there are: once session LANGUAGE SCRIPT HINTS" >&2
+    echo "psac: there is no page '$2'; there are: once session bench dump certify LANGUAGE SCRIPT HINTS" >&2
     exit 2
 }
 

@@ -78,7 +78,8 @@ def usage(why):
 def files(request):
     """Hints on a file that could not be loaded."""
     lines = []
-    for role, name in (("program", request.program), ("input", request.input)):
+    named = [("program", request.program), ("input", request.input)]
+    for role, name in named[:1] if request.mode == "bench" else named:
         source = Source(name)
         if source.why:
             lines.append(f"the {role} {short(name, 60)} could not be loaded: {source.why}")

@@ -5,9 +5,9 @@ from typing import Dict, NamedTuple
 from front.screen import code, short
 from front.wording import listed
 
-MODES = ("once", "session")
-# Modes that are known and that the program refuses today.
-LATER = ("bench",)
+MODES = ("once", "session", "bench", "dump", "certify")
+# How many cells and batches a bench has, at least and at most.
+CELLS, BATCHES = (1, 65536), (0, 1000)
 
 
 class Range(NamedTuple):
@@ -32,7 +32,10 @@ class Wrong(Exception):
 
 
 class Request(NamedTuple):
-    """What the words ask for: a mode, the names of the program and of the input, and the numbers of the options."""
+    """What the words ask for: a mode, the names of the program and of the input, and the numbers of the options.
+
+    In the place of the input's name a bench has its two numbers, as in '64x5'.
+    """
 
     mode: str
     program: str
@@ -82,8 +85,6 @@ def check_plain(plain):
     """Says which of the three words is missing, or that there are more."""
     if not plain:
         raise Wrong("a mode, a program and an input are missing")
-    if plain[0] in LATER:
-        raise Wrong(f"the mode {plain[0]} isn't there yet; the modes are {listed(MODES)}")
     if plain[0] not in MODES:
         if plain[0].endswith(".psac") or len(plain) == 2:
             example = code(f"psac {MODES[0]} {' '.join(short(it, 60) for it in plain)}")
@@ -97,6 +98,16 @@ def check_plain(plain):
     if len(plain) > 3:
         more = short(plain[3], 60)
         raise Wrong(f"behind the program and the input there is one word too many, {more}; a name with blanks needs quotes")
+    if plain[0] == "bench":
+        check_counts(plain[2])
+
+
+def check_counts(word):
+    """Says where the two numbers of a bench are none, or outside their ranges."""
+    found = re.fullmatch("([0-9]{1,9})x([0-9]{1,9})", word)
+    if not found or any(not least <= int(it) <= most for it, (least, most) in zip(found.groups(), (CELLS, BATCHES))):
+        form = f"{CELLS[0]} to {CELLS[1]} cells and {BATCHES[0]} to {BATCHES[1]} batches, as in {code('64x5')}"
+        raise Wrong(f"bench takes {form}, and '{short(word, 60)}' isn't that")
 
 
 def number_of(name, number):

@@ -67,7 +67,8 @@ FIELDS = (
 ) + [b"", b" 5"]
 # Words of the command line, some of which are of its form.
 WORDS = """
-once p i.txt | session p i.txt | once p | once | | bench p i.txt | twice p i.txt | once p i.txt more | --rows 5 once p i.txt
+once p i.txt | session p i.txt | once p | once | | bench p i.txt | bench p 4x1 | bench p 65536x1000 | bench p 65537x1 | bench p 1x1001
+bench p 0x1 | bench p 4x | bench p x1 | bench p 4x1x1 | bench p 0000000004x1 | bench p 000000004x000000001 | bench p 4X1 | once p 4x1 | twice p i.txt | once p i.txt more | --rows 5 once p i.txt
 once --rows=5 p i.txt | once p i.txt --rows | once p i.txt --rows= | once p i.txt --rows 5 --rows 6 | once p i.txt --rows 65537
 once p i.txt --rows 65536 | once p i.txt --nodes 0 | once p i.txt --nodes 0001 | once p i.txt --nodes 0000000001
 once p i.txt --workers 64 | once p i.txt --workers 65 | once p i.txt --rows -5 | once p i.txt -r 5 | once p i.txt --row 5

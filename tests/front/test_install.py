@@ -134,7 +134,7 @@ class Completion(support.Case):
         os.mkdir(f"{self.folder}/ab")
         for words, wanted in (
             ("psac o", "once"),
-            ("psac ", "help once session"),
+            ("psac ", "bench certify dump help once session"),
             ("psac help L", "LANGUAGE"),
             ("psac once a.psac a.", "a.csv a.psac"),
             ("psac once --rows 5 a.p", "a.psac"),
@@ -157,8 +157,6 @@ class Completion(support.Case):
             self.assertIn(f"number, {bounds.least} to {bounds.most}:", zsh)
         for name in words.MODES:
             self.assertIn(f"{name}\\:", zsh)
-        for name in words.LATER:
-            self.assertNotIn(name, zsh)
         of_table = self.complete("psac-table", "--")
         for it in of_table:
             self.assertIn(it, zsh)

@@ -53,7 +53,9 @@ class Pipes(support.Case):
             ("once double.psac cells.txt", 0),
             ("once double.psac", 2),
             ("", 2),
-            ("bench double.psac 4x1", 2),
+            ("bench double.psac 4x1", 0),
+            ("bench double.psac cells.txt", 2),
+            ("bench missing.psac 4x1", 3),
             ("once double.psac missing.txt", 3),
             ("once races.psac cells.txt", 4),
             ("once cells.txt double.psac", 4),
@@ -148,6 +150,9 @@ class Pages(support.Case):
         "help": b"psac MODE PROGRAM INPUT",
         "help once": b"psac once PROGRAM INPUT",
         "help session": b"psac> commit",
+        "help bench": b"cells=4 batches=1",
+        "help dump": b"psac record 1",
+        "help certify": b"\n  no N ",
         "help LANGUAGE": b"neg(5)",
         "help language": b"neg(5)",
         "help SCRIPT": b"set R C FIELD",
@@ -166,7 +171,7 @@ class Pages(support.Case):
             self.assertIn(mark, output, words)
             for line in output.splitlines():
                 self.assertLessEqual(len(line), 80, line)
-        for words in (["help", "nothing"], ["help", "bench"]):
+        for words in (["help", "nothing"], ["help", "watch"]):
             status, output, errors = support.launched(words)
             self.assertEqual((status, output), (2, b""))
             self.assertTrue(errors.startswith(b"psac: "))
@@ -211,8 +216,6 @@ class Pages(support.Case):
                 self.assertIn(str(number), line)
         for name in words.MODES:
             self.assertIn(f"\n  {name} ", self.page("help"))
-        for name in words.LATER:
-            self.assertNotIn(name, self.page("help"))
         page = self.page("script")
         for name in commands.PRESENT:
             self.assertIn(f"\n  {commands.COMMANDS[name].form} ", page)
@@ -223,13 +226,13 @@ class Pages(support.Case):
             self.assertRegex(self.page("language"), rf"\b{word}\b")
 
     def test_what_is_refused_today(self):
-        # The front says of a mode or a command that it isn't there yet exactly where the program refuses it.
+        # The front says of a command that it isn't there yet exactly where the program refuses it, and of no mode.
         from front import commands, words
 
         self.save_double()
-        for name in (*words.MODES, *words.LATER):
-            status = support.bare([name, "double.psac", "cells.txt"], self.folder)[0]
-            self.assertEqual(status == 2, name in words.LATER, name)
+        for name in words.MODES:
+            status = support.bare([name, "double.psac", "4x1" if name == "bench" else "cells.txt"], self.folder)[0]
+            self.assertEqual(status, 0, name)
         for name, line in {**{it: it for it in commands.COMMANDS}, "set": "set 0 0 1", "rows": "rows 1"}.items():
             line = {"hold": "hold 0 out 0", "held": "held 0"}.get(name, line)
             self.assertRegex(line, f"^{commands.COMMANDS[name].pattern}$")

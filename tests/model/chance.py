@@ -5,7 +5,12 @@ int, though now and then it is a text or empty, and the run stops at a fault.
 """
 import random
 
+import inputs
 import programs
+import record
+import session
+import shapes
+import syntax
 
 WORKED = [it for name, it in sorted(vars(programs).items()) if name.isupper() and isinstance(it, str) and it not in programs.REFUSED]
 # Programs whose outputs lead to what blocks made.
@@ -21,10 +26,11 @@ NAMES = 16
 
 
 class Session:
-    """A program, an input with its name, a script and the options."""
+    """A program, an input with its name, a script and the options. Its kinds are those of the program, of most batches and of the
+    caps."""
 
-    def __init__(self, program, name, given, script, options):
-        self.program, self.name, self.given, self.script, self.options = program, name, given, script, options
+    def __init__(self, program, name, given, script, options, kinds):
+        self.program, self.name, self.given, self.script, self.options, self.kinds = program, name, given, script, options, kinds
 
 
 class Scope:
@@ -249,11 +255,99 @@ def field(chance, odd=0.02):
     return chance.choice(ODD_FIELDS) if chance.random() < odd else b"%d" % chance.choice([*SMALL, 4, 5, 9, -1])
 
 
-def edit(chance, rows, columns):
-    row, column = chance.randrange(rows), chance.randrange(columns)
+class Cells:
+    """What a script has staged so far and what it had at its last commit: fields by place, with the number of rows."""
+
+    def __init__(self, chance, grid, room):
+        self.chance, self.columns, self.room = chance, len(grid[0]), max(room, len(grid))
+        self.rows, self.fields = len(grid), {(row, column): it for row, fields in enumerate(grid) for column, it in enumerate(fields)}
+        self.commit()
+
+    def commit(self):
+        self.before = self.rows, dict(self.fields)
+
+    def place(self):
+        return self.chance.randrange(self.rows or 1), self.chance.randrange(self.columns)
+
+    def set(self, place, given):
+        """The line that sets a cell."""
+        if place[0] < self.rows and place[1] < self.columns:
+            self.fields[place] = given
+        return b"set %d %d %s" % (*place, given)
+
+    def set_rows(self, count):
+        """The line that makes another number of rows present."""
+        if count <= self.room:
+            self.rows, self.fields = count, {place: it for place, it in self.fields.items() if place[0] < count}
+        return b"rows %d" % count
+
+
+# Batches, without their commit.
+
+
+def edit(chance, cells):
+    place = cells.place()
     if chance.random() < 0.03:
-        row, column = chance.choice([(rows, column), (row, columns), (999999999, 0)])
-    return b"set %d %d %s" % (row, column, field(chance))
+        place = chance.choice([(cells.rows, place[1]), (place[0], cells.columns), (999999999, 0)])
+    return cells.set(place, field(chance))
+
+
+def edits(chance, cells):
+    return [edit(chance, cells) for _ in range(chance.choice([0, 1, 1, 1, 2, 2, 3, 5]))]
+
+
+def another(chance, cells, place):
+    """The line that sets a cell to what it doesn't hold."""
+    given = field(chance, 0)
+    return cells.set(place, given if given != cells.fields.get(place) else b"%d" % chance.randrange(10, 20))
+
+
+def single(chance, cells):
+    return [another(chance, cells, cells.place())]
+
+
+def whole(chance, cells):
+    """Every cell."""
+    return [another(chance, cells, (row, column)) for row in range(cells.rows) for column in range(cells.columns)]
+
+
+def nothing(chance, cells):
+    """Edits that are taken back before the commit."""
+    rows, fields = cells.before
+    lines = [cells.set(cells.place(), field(chance)) for _ in range(chance.randrange(1, 4))] if cells.rows else []
+    if cells.rows == rows and chance.random() < 0.3:
+        lines += [cells.set_rows(rows + 1), cells.set_rows(rows)]
+    return lines + [cells.set(place, it) for place, it in fields.items() if cells.fields.get(place) not in (it, None)]
+
+
+def same(chance, cells):
+    """Fields that are there already, or two that change places."""
+    places = [place for place in (cells.place() for _ in range(3)) if place in cells.fields]
+    if len(places) < 2 or chance.random() < 0.4:
+        return [cells.set(place, cells.fields[place]) for place in places]
+    one, other = places[:2]
+    first, second = cells.fields[one], cells.fields[other]
+    return [cells.set(one, second), cells.set(other, first)]
+
+
+def fewer_or_more(chance, cells):
+    """Rows that come and go; most that come are filled."""
+    old, count = cells.rows, chance.randrange(cells.room + 2)
+    lines = [cells.set_rows(count)]
+    if count <= cells.room and chance.random() < 0.8:
+        lines += [cells.set((row, column), field(chance, 0)) for row in range(old, count) for column in range(cells.columns)]
+    return lines + (edits(chance, cells) if chance.random() < 0.3 else [])
+
+
+def faulty(chance, cells):
+    """A field at which many programs stop, and after a commit one at which they go on."""
+    place = cells.place()
+    wrong = cells.set(place, chance.choice([b"0", b"", b"north", b"9223372036854775807"]))
+    cells.commit()
+    return [wrong, b"commit", cells.set(place, field(chance, 0))]
+
+
+BATCHES = {it.__name__: it for it in (edits, single, whole, nothing, same, fewer_or_more, faulty)}
 
 
 def hold(chance):
@@ -272,51 +366,104 @@ def held(chance):
     return [b"hold 0 out %d" % chance.choice([0, 0, 0, 1]), first, second, b"held 1"]
 
 
-def edits(chance, rows, columns):
-    return [edit(chance, rows, columns) for _ in range(chance.choice([0, 1, 1, 1, 2, 2, 3, 5]))]
-
-
-def turn(chance, rows, columns, room):
+def turn(chance, batch, cells):
     """A few lines."""
     form = chance.random()
-    if form < 0.6:
+    if form < 0.7:
         shown = ([b"show"] if chance.random() < 0.8 else []) + ([b"tree"] if chance.random() < 0.2 else [])
-        return [*edits(chance, rows, columns), b"commit", *shown]
-    if form < 0.8:
-        return [*held(chance), *edits(chance, rows, columns), b"commit", b"held 1", b"held %d" % chance.randrange(3)]
-    if form < 0.87 and room:
-        count = chance.randrange(room + 2)
-        return [b"rows %d" % count, *(b"set %d 0 %s" % (it, field(chance)) for it in range(rows, count))]
+        lines = [*BATCHES[batch](chance, cells), b"commit", *shown]
+        cells.commit()
+        return lines
+    if form < 0.85:
+        lines = [*held(chance), *edits(chance, cells), b"commit", b"held 1", b"held %d" % chance.randrange(3)]
+        cells.commit()
+        return lines
     if form < 0.9:
+        return fewer_or_more(chance, cells) if cells.room > cells.rows else [edit(chance, cells)]
+    if form < 0.93:
         return [chance.choice(ODD_LINES)]
-    return [chance.choice([b"commit", b"show", b"tree", b"held 1", b"held 64", edit(chance, rows, columns)])]
+    other = chance.choice([b"commit", b"show", b"tree", b"held 1", b"held 64", b""])
+    if other == b"commit":
+        cells.commit()
+    return [other or edit(chance, cells)]
 
 
-def script(chance, rows, columns, room):
+def script(chance, batch, cells):
     lines = [b"commit", b"show"] if chance.random() < 0.9 else []
     for _ in range(chance.randrange(2, 12)):
-        lines += turn(chance, rows, columns, room)
+        lines += turn(chance, batch, cells)
     if chance.random() < 0.05:
         lines += [b"quit", b"show"]
     end = chance.choice([b"\n", b"\n", b"\n", b"\r\n"])
     return b"".join(it + end for it in lines) + chance.choice([b"", b"", b"", b"commit", b"show\r"])
 
 
-def options(chance, rows):
-    found = {"rows": chance.choice([0, 0, 0, rows + 1, rows + 3])}
-    tight = chance.random() < 0.3
-    for sort in ["nodes", "mods", "links"]:
-        found[sort] = chance.choice([10, 20, 40, 80, 160]) if tight and chance.random() < 0.5 else 2000
+# Whole sessions.
+
+SORTS = ["nodes", "mods", "links"]
+
+
+def first_sizes(opened):
+    """The sizes of the first run, where there is one."""
+    try:
+        its = opened()
+    except (inputs.Refused, syntax.Refused):
+        return {}
+    its.commit()
+    return record.Size(its.kept.tree).sorts() if its.kept else {}
+
+
+def options(chance, caps, opened):
+    """The caps of a session. Tight ones follow from what its first run makes."""
+    found = dict.fromkeys(SORTS, 2000)
+    if caps == "wide":
+        return found
+    sizes = first_sizes(opened)
+    for sort in SORTS:
+        if chance.random() < 0.7:
+            size = sizes.get(sort, chance.choice([10, 20, 40, 80, 160]))
+            found[sort] = max(1, size + chance.choice([-1, 0, 0, 0, 0, 1, 2, 4, 8, 16]))
     return found
 
 
-def session(seed, number):
+def worked(chance, *_):
+    return chance.choice(WORKED)
+
+
+def reaching(chance, *_):
+    return chance.choice(REACHING)
+
+
+def typed(chance, rows, columns, _):
+    return Maker(chance, rows, columns).program()
+
+
+PROGRAMS = {"typed": typed, "worked": worked, "reaching": reaching, **shapes.SHAPES}
+# In a hundred; the others share the rest.
+SHARES = {"typed": 35, "worked": 6, "reaching": 6}
+
+
+def chosen_program(chance):
+    rest = (100 - sum(SHARES.values())) / (len(PROGRAMS) - len(SHARES))
+    return chance.choices(list(PROGRAMS), [SHARES.get(it, rest) for it in PROGRAMS])[0]
+
+
+def first_field(chance, shape):
+    if shape == "texts" and chance.random() < 0.4:
+        return chance.choice([b"north", b"south", b""])
+    return field(chance, 0.005)
+
+
+def session_of(seed, number):
     """The session of this number."""
     chance = random.Random(f"{seed} {number}")
-    rows, columns = chance.randrange(1, 7), chance.choice([1, 1, 2, 3])
-    program = chance.choices([Maker(chance, rows, columns).program(), chance.choice(WORKED), chance.choice(REACHING)], [70, 18, 12])[0]
-    grid = [[field(chance, 0.005) for _ in range(columns)] for _ in range(rows)]
-    name, comma = chance.choice([("input.txt", b""), ("input.csv", b",")]) if columns == 1 else ("input.csv", b",")
-    given = b"".join(comma.join(b'""' if not it else it for it in record) + b"\n" for record in grid)
-    its = options(chance, rows)
-    return Session(program.encode(), name, given, script(chance, rows, columns, its["rows"]), its)
+    rows, columns, caps = chance.randrange(1, 7), chance.choice([1, 1, 2, 3]), chance.choice(["wide", "wide", "tight"])
+    shape, batch = chosen_program(chance), chance.choice(list(BATCHES))
+    room = chance.choice([0, 0, 0, rows + 1, rows + 3]) if batch != "fewer_or_more" else rows + chance.randrange(1, 5)
+    program = PROGRAMS[shape](chance, rows, columns, room)
+    grid = [[first_field(chance, shape) for _ in range(columns)] for _ in range(rows)]
+    name = chance.choice(["input.txt", "input.csv"]) if columns == 1 else "input.csv"
+    given = b"".join(b",".join(it or (b'""' if name == "input.csv" else b"") for it in fields) + b"\n" for fields in grid)
+    settings = session.Settings(True, False, room)
+    its = {"rows": room, **options(chance, caps, lambda: session.opened(program.encode(), name, given, settings))}
+    return Session(program.encode(), name, given, script(chance, batch, Cells(chance, grid, room)), its, (shape, batch, caps))
