@@ -7,8 +7,8 @@ mod plain;
 mod rows;
 mod words;
 
-pub use lookup::{find, row};
+pub use lookup::find;
 pub use op::{Op, OpFault, apply};
 pub use plain::{Handle, Plain, TextId};
-pub use rows::{OPS, OpRow};
+pub use rows::{OpRow, operators, row};
 pub use words::{from_words, to_words};

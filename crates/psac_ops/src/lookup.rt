@@ -3,15 +3,7 @@ ghost use Rattle.std.specs.Prelude.{◌≡◌};
 ghost use Rattle.std.specs.List.{position_from};
 ghost use Rattle.psac_ops.specs.Rows.{has_name};
 
-use crate::op::Op;
-use crate::rows::{OPS, OpRow};
-
-/// The operator's row of the table.
-pub fn row(op: Op) -> OpRow
-    ensures { result.op ≡ op }
-{
-    OPS[op as usize]
-}
+use crate::rows::OpRow;
 
 /// The place of the first row of that name. `None` comes exactly where no row has it.
 pub fn find(rows: &[OpRow], name: &str) -> Option<usize>

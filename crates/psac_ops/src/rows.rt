@@ -1,6 +1,8 @@
 // How the operators are written.
-ghost use Rattle.std.specs.Prelude.{IsTrue};
-ghost use Rattle.psac_ops.specs.Written.{is_row};
+ghost use Rattle.std.specs.Prelude.{◌≡◌, IsTrue, map};
+ghost use Rattle.std.specs.List.{IsDistinct, list_all};
+ghost use Rattle.std.specs.Str.{bytes_eq};
+ghost use Rattle.psac_ops.specs.Rows.{in_order, is_right, names_of};
 
 use crate::op::Op;
 
@@ -13,7 +15,6 @@ pub struct OpRow {
     /// It stands between its two arguments; else it stands before them, and they in parentheses.
     pub infix: bool,
     pub op: Op,
-    pub ghost right: { IsTrue (is_row name.now arity «infix» op) },
 }
 
 macro_rules! row {
@@ -27,8 +28,7 @@ macro_rules! row {
     };
 }
 
-/// The operators.
-pub const OPS: [OpRow; 22] = [
+const OPS: [OpRow; 22] = [
     row!("+", 2, true, Add),
     row!("-", 2, true, Sub),
     row!("*", 2, true, Mul),
@@ -52,3 +52,20 @@ pub const OPS: [OpRow; 22] = [
     row!("fst", 1, false, Fst),
     row!("snd", 1, false, Snd),
 ];
+
+/// The table of the operators: each row is right, and no two rows have one name.
+pub fn operators() -> [OpRow; 22]
+    ensures order { map (λ row. row.op) result ≡ in_order }
+    ensures rows { IsTrue (list_all is_right result) }
+    ensures names { IsDistinct bytes_eq (names_of result) }
+{
+    OPS
+}
+
+/// The operator's row of the table.
+pub fn row(op: Op) -> OpRow
+    ensures operator { result.op ≡ op }
+    ensures right { IsTrue (is_right result) }
+{
+    operators()[op as usize]
+}
