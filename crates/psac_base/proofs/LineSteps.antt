@@ -1,8 +1,10 @@
 -- Steps of a search for the end of a line.
-use Rattle.std.proofs.Common.{◌≡◌, ℕ, List, ◌++◌, Option, Some, None, arith, append_assoc, length-append, inl, inr, sym, ◌∙◌, Bool, true, false}
+use Rattle.std.proofs.Common.{◌≡◌, ◌≤◌, ◌+◌, ℕ, List, ◌++◌, length, slice_index, Option, Some, None}
+use Rattle.std.proofs.Common.{arith, append_assoc, length-append, inl, inr, ap, sym, ◌∙◌, Bool, true, false}
+use Rattle.std.proofs.Math.ListN.{get_or-append}
 use Rattle.std.specs.Io.KnownBytes.{Consumes}
 use Rattle.psac_base.specs.Feeds.{NoFeed}
-use Rattle.psac_base.specs.Lines.{EndsAtEnd, Grew}
+use Rattle.psac_base.specs.Lines.{EndsAtEnd, Grew, WasNeeded}
 
 Consumes-append : (a b c : Option (List ℕ)) (xs ys : List ℕ) → Consumes a b xs → Consumes b c ys → Consumes a c (xs ++ ys)
 Consumes-append None b c xs ys before after = tt
@@ -22,6 +24,18 @@ Grew-then a b c left left' left'' n n' n'' before after = record {
 
 pub NoFeed-join : (bytes : List ℕ) (from middle to : ℕ) → NoFeed bytes from middle → NoFeed bytes middle to → NoFeed bytes from to
 NoFeed-join bytes from middle to before after = λ k low high feed. grind (arith, before k, after k)
+
+-- a piece that was read where no line ended was needed
+pub WasNeeded-then : (first bytes now : List ℕ) (from : ℕ) (left left' : Option (List ℕ)) (n n' : ℕ)
+    → length first ≤ length bytes → NoFeed bytes from (length bytes) → Grew bytes now left left' n n'
+    → length now ≤ length bytes + 4096 → WasNeeded first now from
+WasNeeded-then first bytes now from left left' n n' behind none grew piece = record {
+  earlier = length bytes;
+  behind = behind;
+  piece = piece;
+  none = λ k low high feed. none k low high
+      (sym (get_or-append bytes grew.got 0 k high) ∙ ap (λ xs. slice_index xs k) (sym grew.bytes) ∙ feed);
+}
 
 -- the end is noted once
 pub EndsAtEnd-then : (a b c : Bool) (left left' : Option (List ℕ)) → b ≡ false → EndsAtEnd a b left → EndsAtEnd b c left' → EndsAtEnd a c left'

@@ -39,6 +39,13 @@ pub record NoFeedBeforePiece (bytes : List ℕ) (from : ℕ) : Type 0 where
   pub piece : length bytes ≤ before + 4096
   pub none : NoFeed bytes from before
 
+-- more was read since no line ended: none ends before the last piece of it, of at most 4,096 bytes
+pub record WasNeeded (before now : List ℕ) (from : ℕ) : Type 0 where
+  pub earlier : ℕ
+  pub behind : length before ≤ earlier
+  pub piece : length now ≤ earlier + 4096
+  pub none : NoFeed now from earlier
+
 -- the end is noted only where the source is at its end
 abbrev pub EndsAtEnd : Bool → Bool → Option (List ℕ) → Type 0
 EndsAtEnd before now left = (now ≡ before) ⊎ ((now ≡ true) × IsAtEnd left)

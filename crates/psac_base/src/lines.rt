@@ -63,7 +63,8 @@ impl Lines {
     ghost use Rattle.std.specs.Prelude.{◌≡◌, ◌⊎◌, ◌+◌, ◌≤◌, ◌<◌, ◌↔◌, ℕ, [], Ok, Err, true, false, length, drop, take, slice_index, slice_range, IfOk, IfSome, IfNone, IfErr, OnOk, OnErr, IsErrOf, IsTrue, IsOk};
     ghost use Rattle.psac_base.specs.Causes.{Rose};
     ghost use Rattle.psac_base.specs.Feeds.{NoFeed};
-    ghost use Rattle.psac_base.specs.Lines.{EndsAtEnd, Grew, IsEnd, GivesLine, NoFeedBeforePiece, bytes_of, given_of, has_ended, is_live};
+    ghost use Rattle.psac_base.specs.Lines.{EndsAtEnd, Grew, IsEnd, GivesLine, NoFeedBeforePiece, WasNeeded};
+    ghost use Rattle.psac_base.specs.Lines.{bytes_of, given_of, has_ended, is_live};
 
     /// The lines of a source that wasn't read yet. They are live.
     pub fn new(alloc: Global) -> Result<Lines, NoMemory>
@@ -141,7 +142,8 @@ impl Lines {
         ensures none { IfOk result (λ found. IfNone found ((has_ended self.new ≡ true)
             × NoFeed (bytes_of self.new) (given_of self.old) (length (bytes_of self.new)))) }
         ensures still { has_ended self.old ≡ true → (source.new ≡ source.old) × (bytes_of self.new ≡ bytes_of self.old) }
-        ensures lazy { ((source.new ≡ source.old) × (bytes_of self.new ≡ bytes_of self.old)) ⊎ NoFeed (bytes_of self.old) (given_of self.old) (length (bytes_of self.old)) }
+        ensures lazy { ((source.new ≡ source.old) × (bytes_of self.new ≡ bytes_of self.old))
+            ⊎ WasNeeded (bytes_of self.old) (bytes_of self.new) (given_of self.old) }
         ensures ended { OnOk result (EndsAtEnd (has_ended self.old) (has_ended self.new) (S.left source.new)) }
         ensures unended { OnErr result (has_ended self.new ≡ has_ended self.old) }
         ensures going { OnErr result (has_ended self.new ≡ false) }
@@ -164,7 +166,7 @@ impl Lines {
 
     /// Puts the next line in place of what `line` holds, and answers `Ok(true)`: without its line feed, and
     /// without one carriage return before that. An unfinished last line stands as it is. `Ok(false)` comes at
-    /// the end of the source, with no line. A piece is read only where no whole line is left.
+    /// the end of the source, with no line. A piece is read only where no line ends in what was read before it.
     ///
     /// After `Ok(false)` and after each error no further line may be asked for. They leave `line` as it was,
     /// but for `NoMemory`, after which it may be empty.
@@ -186,7 +188,8 @@ impl Lines {
         ensures ended { EndsAtEnd (has_ended self.old) (has_ended self.new) (S.left source.new) }
         // No more is read than the line needs, and nothing after a read that gave 0.
         ensures still { has_ended self.old ≡ true → (source.new ≡ source.old) × (bytes_of self.new ≡ bytes_of self.old) }
-        ensures lazy { ((source.new ≡ source.old) × (bytes_of self.new ≡ bytes_of self.old)) ⊎ NoFeed (bytes_of self.old) (given_of self.old) (length (bytes_of self.old)) }
+        ensures lazy { ((source.new ≡ source.old) × (bytes_of self.new ≡ bytes_of self.old))
+            ⊎ WasNeeded (bytes_of self.old) (bytes_of self.new) (given_of self.old) }
         // A read failed, and every whole line was given before.
         ensures failed { IsErrOf result LineFault.Failed → Rose (S.faults source.old) (S.faults source.new) }
         ensures given { IsErrOf result LineFault.Failed → NoFeed (bytes_of self.new) (given_of self.old) (length (bytes_of self.new)) }

@@ -1,6 +1,5 @@
 use Rattle.std.proofs.Common.{◌≡◌, ◌⊎◌, ◌≤◌, ◌+◌, ◌-◌, true, length, if◌then◌else◌}
-use Rattle.psac_base.specs.Feeds.{NoFeed}
-use Rattle.psac_base.specs.Lines.{EndsAtEnd, Grew}
+use Rattle.psac_base.specs.Lines.{EndsAtEnd, Grew, WasNeeded}
 use Rattle.psac_base.proofs.lines.Lines.find_end.Given as goal
 
 abbrev pub invariant-pieces : goal.invariant-pieces
@@ -12,7 +11,7 @@ invariant-pieces g l = record {
   later : g.S.Source.faults l.initial.source ≤ g.S.Source.faults l.source;
   still : l.initial.self.ended ≡ true → (l.source ≡ l.initial.source) × (l.self.bytes.items ≡ l.initial.self.bytes.items);
   lazy : (l.source ≡ l.initial.source) × (l.self.bytes.items ≡ l.initial.self.bytes.items)
-      ⊎ NoFeed l.initial.self.bytes.items l.initial.self.at (length l.initial.self.bytes.items);
+      ⊎ WasNeeded l.initial.self.bytes.items l.self.bytes.items l.initial.self.at;
   ended : EndsAtEnd l.initial.self.ended l.self.ended (g.S.Source.left l.source);
 }
 
