@@ -10,7 +10,7 @@ use Rattle.psac_syntax.specs.declared.program.Stmt.TheVariants as s
 use Rattle.psac_syntax.specs.declared.program.Func.{Func}
 use Rattle.psac_syntax.specs.declared.program.ReadItem.{ReadItem}
 use Rattle.psac_model.specs.Series.{Scope, Breach, Rule, name_wrong, first_wrong, expr_wrong, rule_step, rule_of}
-use Rattle.psac_model.specs.Ruled.{expr_wrong_layer, rule_of_layer}
+use Rattle.psac_model.proofs.Ruled.{expr_wrong_layer, rule_of_layer}
 
 module _ (scope : Scope) (w : List ℕ) where
   pub wrong_nil : expr_wrong scope w e.Nil ≡ None

@@ -9,7 +9,7 @@ use Rattle.psac_syntax.specs.declared.program.Stmt.TheFolds as folds
 use Rattle.psac_syntax.specs.declared.program.Func.{Func}
 use Rattle.psac_syntax.specs.declared.program.ReadItem.{ReadItem}
 use Rattle.psac_model.specs.Series.{Breach, NotWritten, Fault, unless, without, Scope, Dest, Rule, has, dest_names, so, with_value, with_dest, with_items, items_wrong, one_by_one, all_written, body_rule, rule_step, rule_of}
-use Rattle.psac_model.specs.Ruled.{rule_of_layer}
+use Rattle.psac_model.proofs.Ruled.{rule_of_layer}
 use Rattle.psac_check.specs.declared.fault.CheckFault.{CheckFault}
 use Rattle.psac_check.specs.Faults.{fault_of}
 use Rattle.psac_check.specs.Follows.{Fails}

@@ -1,5 +1,5 @@
 -- What a call of the checker leaves, against what the series rule gives.
-use Rattle.std.specs.Prelude.{◌≡◌, ℕ, List, Option, Some, None, Result, Ok, Err, IfSome}
+use Rattle.std.specs.Prelude.{◌≡◌, Result, Ok, Err, IfSome}
 use Rattle.psac_model.specs.Series.{Fault, Scope}
 use Rattle.psac_check.specs.declared.fault.CheckFault.{CheckFault}
 use Rattle.psac_check.specs.Faults.{fault_of}
@@ -12,11 +12,6 @@ Fails e given = IfSome (fault_of e) (λ fault. given ≡ Err fault)
 abbrev pub Gives : {X A : Type 0} → (X → A) → Result X CheckFault → Result A Fault → Type 0
 Gives view (Ok x) given = given ≡ Ok (view x)
 Gives view (Err e) given = Fails e given
-
--- what is left is the scope and the written set that the rule gives
-abbrev pub Follows : Result (Unit {0}) CheckFault → Scope → List ℕ → Result (Scope × List ℕ) Fault → Type 0
-Follows (Ok done) s w given = given ≡ Ok (s, w)
-Follows (Err e) s w given = Fails e given
 
 -- a body leaves the scope as it was
 abbrev pub Leaves : {X : Type 0} → Result X CheckFault → Scope → Scope → Type 0

@@ -17,10 +17,7 @@ use Rattle.psac_grammar.specs.Marked.{Mark, Marked, token, by_size, by_name, by_
 abbrev pub top : ℕ
 top = 5
 
--- the level of comparisons, of which no two stand side by side
-abbrev pub comparisons : ℕ
-comparisons = 3
-
+-- operators of a level stand in a chain; but of comparisons, the level 3, no two stand side by side
 abbrev pub is_chain : ℕ → Bool
 is_chain (suc (suc (suc zero))) = false
 is_chain _ = true

@@ -10,7 +10,7 @@ use Rattle.psac_model.specs.Names.{Path, Name, Made, Env, Heap, bound, bind, hel
 use Rattle.psac_model.specs.Expression.{Setting}
 use Rattle.psac_model.specs.Tree.{R, Reads}
 use Rattle.psac_model.specs.Run.{under, Manner, plainly, by_path_in, Deeper, Action, Bind, Make, Put, Body, Block, Sides, act, act_or_stop, with_reads}
-use Rattle.psac_laws.specs.Writes.{AllHeld}
+use Rattle.psac_laws.proofs.Placed.{AllHeld}
 use Rattle.psac_model.specs.Series.{has, without, all_in}
 use Rattle.psac_laws.specs.Standing.{in_both, Standing, is_new, with_value, with_dest, with_values, settled, series_of, series}
 use Rattle.psac_laws.proofs.Places.{some_is, nat_is, nat_same, not_true, test_or, not_both, name_differs}

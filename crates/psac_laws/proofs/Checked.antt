@@ -7,7 +7,7 @@ use Rattle.psac_syntax.specs.declared.program.Stmt.TheFolds.{fold-Stmt, fold-rol
 use Rattle.psac_ops.specs.declared.plain.TextId.{TextId}
 use Rattle.psac_syntax.specs.declared.program.Func.{Func}
 use Rattle.psac_syntax.specs.declared.program.Program.{Program}
-use Rattle.psac_syntax.specs.Folds.{stmt_fold_is}
+use Rattle.psac_syntax.proofs.Folds.{stmt_fold_is}
 use Rattle.psac_model.specs.Run.{func_named}
 use Rattle.psac_model.specs.Fresh.{World, main_of, world_of}
 use Rattle.psac_model.specs.Series as rule

@@ -6,7 +6,8 @@ use Rattle.psac_model.specs.Names.{Name, Heap, held}
 use Rattle.psac_model.specs.Tree.{Tree}
 use Rattle.psac_model.specs.Run.{Ran, Manner, plainly}
 use Rattle.psac_laws.specs.Manners.{ReadsHeld}
-use Rattle.psac_laws.specs.Writes.{times, written, Placed}
+use Rattle.psac_laws.specs.Writes.{times}
+use Rattle.psac_laws.proofs.Placed.{written, Placed}
 use Rattle.psac_laws.proofs.Places.{none_some, zero_or}
 use Rattle.psac_laws.proofs.Heaps.{IsHeld, Closed, Wider, untouched, held_on, wider_written}
 

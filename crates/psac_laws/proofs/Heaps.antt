@@ -3,7 +3,8 @@ use Rattle.std.proofs.Common.{◌≡◌, ◌+◌, ◌≤◌, if◌then◌else◌
 use Rattle.psac_ops.specs.Value.{Value, nil, bool, int, text, ref, pair}
 use Rattle.psac_model.specs.Names.{Name, Heap, held, same_name}
 use Rattle.psac_model.specs.Tree.{Tree, E, A, W, S, P, R, Reads}
-use Rattle.psac_laws.specs.Writes.{times, written, Placed, AllHeld}
+use Rattle.psac_laws.specs.Writes.{times}
+use Rattle.psac_laws.proofs.Placed.{written, Placed, AllHeld}
 use Rattle.psac_laws.proofs.Places.{test_or, zero_or}
 
 abbrev pub IsHeld : Heap → Name → Type 0

@@ -23,3 +23,4 @@ pub mod Layers
 pub mod Checked
 pub mod Opening
 pub mod Samples
+pub mod Placed

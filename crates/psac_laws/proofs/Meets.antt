@@ -4,7 +4,7 @@ use Rattle.psac_syntax.specs.declared.program.Expr.{Expr, out-Expr, map-Expr}
 use Rattle.psac_syntax.specs.declared.program.Expr.TheOpen.{Expr-F}
 use Rattle.psac_syntax.specs.declared.program.Expr.TheFolds.{fold-Expr, fold-roll-Expr, ind-Expr}
 use Rattle.psac_syntax.specs.declared.program.ReadItem.{ReadItem}
-use Rattle.psac_syntax.specs.Folds.{expr_fold_is}
+use Rattle.psac_syntax.proofs.Folds.{expr_fold_is}
 use Rattle.psac_model.specs.Series as rule
 use Rattle.psac_model.specs.Series.{Breach, NotWritten, BranchesDiffer, WrittenInBothSides, Arity, Fault, Scope, Dest, has, all_in, without, dest_names, first_wrong, unless, so, name_wrong, expr_step, expr_wrong, from_wrong, new_wrong, dest_wrong, dests_wrong, items_wrong, with_items, call_wrong, all_written, body_rule, rule_step, rule_of}
 use Rattle.psac_laws.specs.Standing.{Standing, every, names_step, names_known, is_new, with_value, with_values, reads_known}

@@ -3,7 +3,7 @@ use Rattle.std.proofs.Common.{◌≡◌, ℕ, ◌==◌, ◌&&◌, ◌||◌, nat_
 use Rattle.psac_ops.specs.Value.{Value}
 use Rattle.psac_model.specs.Names.{Path, Name, Env, Heap, held, same_name}
 use Rattle.psac_model.specs.Tree.{Tree, E, A, W, S, P, R, Reads}
-use Rattle.psac_laws.specs.Writes.{written, Placed, AllHeld}
+use Rattle.psac_laws.proofs.Placed.{written, Placed, AllHeld}
 use Rattle.psac_laws.specs.Places.{part_at, stands_before, parted, IsIn, is_input, WrittenBefore, ReadsAfterWrites}
 use Rattle.psac_laws.proofs.Places.{none_some, some_is, test_or, nat_is, nat_same, name_is}
 

@@ -5,7 +5,8 @@ use Rattle.psac_model.specs.declared.ends.End.TheVariants.{Done, Stop}
 use Rattle.psac_model.specs.Names.{Name, Heap, Path, held}
 use Rattle.psac_model.specs.Tree.{P}
 use Rattle.psac_model.specs.Run.{plainly, sides, first_stop}
-use Rattle.psac_laws.specs.Writes.{times, written, Placed}
+use Rattle.psac_laws.specs.Writes.{times}
+use Rattle.psac_laws.proofs.Placed.{written, Placed}
 use Rattle.psac_laws.proofs.Places.{zero_or}
 use Rattle.psac_laws.proofs.Heaps.{IsHeld, Wider, untouched, writes_some, held_on, held_more, same_written, swapped, known_more}
 use Rattle.psac_laws.proofs.Good.{plainly_reads_held, wider_same, Same, Runs, Good, left_is, held_left, wider_first}

@@ -7,7 +7,7 @@ use Rattle.psac_model.specs.Names.{Path, Name, Env, Heap, bound, held, same_name
 use Rattle.psac_model.specs.Expression.{Setting}
 use Rattle.psac_model.specs.Run.{Manner, plainly, by_path, by_path_in, run, func_named}
 use Rattle.psac_laws.specs.Manners.{ReadsHeld}
-use Rattle.psac_laws.specs.Writes.{written}
+use Rattle.psac_laws.proofs.Placed.{written}
 use Rattle.psac_model.specs.Series.{has}
 use Rattle.psac_laws.specs.Standing.{Standing, series, MeetsSeries}
 use Rattle.psac_laws.proofs.Places.{none_some, some_is, test_or, name_is}

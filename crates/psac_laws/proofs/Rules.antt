@@ -2,7 +2,7 @@
 use Rattle.std.proofs.Common.{◌≡◌, ℕ, ◌==◌, ◌||◌, Bool, true, false, not, List, [], ◌∷◌, ◌++◌, Option, Some, None, refl, ap, sym, ◌∙◌, subst, ◌⊎◌, inl, inr}
 use Rattle.psac_syntax.specs.declared.program.Stmt.{Stmt, out-Stmt, map-Stmt}
 use Rattle.psac_syntax.specs.declared.program.Stmt.TheOpen.{Stmt-F}
-use Rattle.psac_syntax.specs.Folds.{stmt_fold_out}
+use Rattle.psac_syntax.proofs.Folds.{stmt_fold_out}
 use Rattle.psac_syntax.specs.declared.program.ReadItem.{ReadItem}
 use Rattle.psac_model.specs.Series.{has, without, all_in}
 use Rattle.psac_laws.specs.Standing.{in_both, Standing, Rule, is_new, with_value, with_values, settled, only_if, then_with, one_by_one, left_by, series_step, series_of, series}

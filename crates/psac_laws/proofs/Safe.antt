@@ -6,7 +6,7 @@ use Rattle.psac_model.specs.Names.{Path, Name, Made, Env, Heap, bound, bind, hel
 use Rattle.psac_model.specs.Expression.{Setting}
 use Rattle.psac_model.specs.Tree.{Reads}
 use Rattle.psac_model.specs.Run.{with_reads}
-use Rattle.psac_laws.specs.Writes.{AllHeld}
+use Rattle.psac_laws.proofs.Placed.{AllHeld}
 use Rattle.psac_model.specs.Series.{has, without, all_in}
 use Rattle.psac_laws.specs.Standing.{Standing, is_new, with_value, with_dest, with_values, settled}
 use Rattle.psac_laws.proofs.Places.{none_some, some_is, nat_is, test_or, not_both, made_is, turns_differ}

@@ -6,7 +6,8 @@ use Rattle.psac_model.specs.declared.ends.End.TheVariants.{Done, Stop}
 use Rattle.psac_model.specs.Names.{Name, Heap}
 use Rattle.psac_model.specs.Tree.{E, S}
 use Rattle.psac_model.specs.Run.{Ran, plainly, under, sequence}
-use Rattle.psac_laws.specs.Writes.{times, written}
+use Rattle.psac_laws.specs.Writes.{times}
+use Rattle.psac_laws.proofs.Placed.{written}
 use Rattle.psac_laws.proofs.Places.{zero_or}
 use Rattle.psac_laws.proofs.Heaps.{writes_some, same_written, placed_same}
 use Rattle.psac_laws.proofs.Good.{Runs, Good, good_by, left_is, held_left, wider_left}

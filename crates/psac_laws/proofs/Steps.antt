@@ -6,7 +6,8 @@ use Rattle.psac_model.specs.declared.ends.End.TheVariants.{Done}
 use Rattle.psac_model.specs.Names.{Name, Heap, Env, held, same_name}
 use Rattle.psac_model.specs.Tree.{E, A, W, R, Reads}
 use Rattle.psac_model.specs.Run.{plainly, under}
-use Rattle.psac_laws.specs.Writes.{times, AllHeld}
+use Rattle.psac_laws.specs.Writes.{times}
+use Rattle.psac_laws.proofs.Placed.{AllHeld}
 use Rattle.psac_laws.proofs.Places.{none_some, test_or, name_same, name_is}
 use Rattle.psac_laws.proofs.Heaps.{IsHeld, Closed, Wider, held_on}
 use Rattle.psac_laws.proofs.Good.{Runs, Good, held_left}

@@ -8,5 +8,3 @@ pub mod Redo
 pub mod Work
 pub mod Series
 pub mod Plain
-pub mod Valued
-pub mod Ruled

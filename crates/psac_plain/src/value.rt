@@ -64,7 +64,7 @@ fn operator(op: Op, args: &[Plain]) -> Result<Plain, Halt>
 
 /// The value of an expression.
 #[cycle(value)]
-#[tactic(auto, using(psac_model::specs::Valued::value_of_nil, psac_model::specs::Valued::value_of_bool, psac_model::specs::Valued::value_of_int, psac_model::specs::Valued::value_of_text, psac_model::specs::Valued::value_of_name, psac_model::specs::Valued::value_of_rows, psac_model::specs::Valued::value_of_cols, psac_model::specs::Valued::value_of_row_count, psac_model::specs::Valued::value_of_cell, psac_model::specs::Valued::value_of_apply))]
+#[tactic(auto, using(psac_model::proofs::Valued::value_of_nil, psac_model::proofs::Valued::value_of_bool, psac_model::proofs::Valued::value_of_int, psac_model::proofs::Valued::value_of_text, psac_model::proofs::Valued::value_of_name, psac_model::proofs::Valued::value_of_rows, psac_model::proofs::Valued::value_of_cols, psac_model::proofs::Valued::value_of_row_count, psac_model::proofs::Valued::value_of_cell, psac_model::proofs::Valued::value_of_apply))]
 pub fn value(alloc: Global, opening: &Opening, env: &[Binding], e: &Expr) -> Result<Plain, Halt>
     ensures { Gives plain_value result (value_of (setting_by opening.now) (env_of env.now) e.now) }
 {

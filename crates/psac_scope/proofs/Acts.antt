@@ -6,7 +6,7 @@ use Rattle.psac_ops.specs.Value.{Value}
 use Rattle.psac_syntax.specs.declared.program.Stmt.{Stmt, out-Stmt, map-Stmt}
 use Rattle.psac_syntax.specs.declared.program.Stmt.TheOpen.{Stmt-F}
 use Rattle.psac_syntax.specs.declared.program.Func.{Func}
-use Rattle.psac_syntax.specs.Folds.{stmt_fold_out}
+use Rattle.psac_syntax.proofs.Folds.{stmt_fold_out}
 use Rattle.psac_model.specs.Names.{Env, bind}
 use Rattle.psac_model.specs.Expression.{Setting, value_of, in_order}
 use Rattle.psac_model.specs.Run.{Store, Action, Bind, Make, Put, Body, Block, Sides, action_of, read_of, with_reads, as_bool, destination, reference, bound_to, call_of, func_named}

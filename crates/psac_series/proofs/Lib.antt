@@ -9,5 +9,6 @@ pub mod Names
 pub mod Takes
 pub mod Lean
 pub mod Samples
-pub mod Digits
+pub mod Distinct
 pub mod Blanks
+pub mod Quoted

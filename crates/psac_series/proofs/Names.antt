@@ -5,7 +5,7 @@ use Rattle.psac_syntax.specs.declared.program.Expr.TheOpen.{Expr-F}
 use Rattle.psac_syntax.specs.declared.program.Expr.TheFolds.{fold-Expr, fold-roll-Expr, ind-Expr}
 use Rattle.psac_syntax.specs.declared.program.ReadItem.{ReadItem}
 use Rattle.psac_syntax.specs.declared.program.Func.{Func}
-use Rattle.psac_syntax.specs.Folds.{expr_fold_is, expr_fold_out}
+use Rattle.psac_syntax.proofs.Folds.{expr_fold_is, expr_fold_out}
 use Rattle.psac_model.specs.Series as rule
 use Rattle.psac_model.specs.Series.{Breach, Arity, Rebound, Scope, Dest, has, all_in, dest_names, first_wrong, unless, name_wrong, expr_step, expr_wrong, from_wrong, new_wrong, dest_wrong, dests_wrong, items_wrong, with_items, call_wrong}
 use Rattle.psac_laws.specs.Standing.{Standing, every, names_step, names_known, is_new, with_value, with_values, reads_known, distinct}

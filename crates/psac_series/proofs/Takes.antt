@@ -5,7 +5,7 @@ use Rattle.psac_syntax.specs.declared.program.Stmt.{Stmt, map-Stmt, roll-Stmt}
 use Rattle.psac_syntax.specs.declared.program.Stmt.TheOpen.{Stmt-F}
 use Rattle.psac_syntax.specs.declared.program.Stmt.TheFolds.{fold-Stmt, fold-roll-Stmt, ind-Stmt}
 use Rattle.psac_syntax.specs.declared.program.Func.{Func}
-use Rattle.psac_syntax.specs.Folds.{stmt_fold_is}
+use Rattle.psac_syntax.proofs.Folds.{stmt_fold_is}
 use Rattle.psac_model.specs.Run.{func_named}
 use Rattle.psac_model.specs.Series as rule
 use Rattle.psac_model.specs.Series.{BranchesDiffer, WrittenInBothSides, NotWritten, Fault, Scope, Dest, has, all_in, without, dest_names, first_wrong, unless, new_wrong, dest_wrong, expr_wrong, items_wrong, with_items, call_wrong, dests_wrong, all_written, body_rule, rule_step, rule_of}

@@ -4,3 +4,4 @@ pub mod Outputs
 pub mod Lean
 pub mod Texts
 pub mod Blanks
+pub mod Quoted

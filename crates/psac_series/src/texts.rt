@@ -1,12 +1,12 @@
-ghost use Rattle.std.specs.Prelude.{◌≡◌, ◌^◌, nat_lt, if◌then◌else◌, ℕ, false, List, Some, None, Ok};
+ghost use Rattle.std.specs.Prelude.{◌≡◌, ◌++◌, ℕ, false, List, length, take, Some, Ok};
 ghost use Rattle.psac_ops.specs.declared.plain.TextId.{TextId};
 ghost use Rattle.psac_ops.specs.declared.plain.Plain.{Plain};
 ghost use Rattle.psac_inputs.specs.Texts.{Texts, added, field};
 ghost use Rattle.psac_tokens.specs.declared.place.Place.{Place};
-ghost use Rattle.psac_tokens.specs.Lex.{skip};
-ghost use Rattle.psac_tokens.specs.Number.{int_of};
+ghost use Rattle.psac_tokens.specs.Lex.{closing, content, skip};
 ghost use Rattle.psac_series.specs.Blanks.{Leaves};
-ghost use Rattle.psac_series.specs.Texts.{AreDistinct, digits_value};
+ghost use Rattle.psac_series.specs.Quoted.{Closes};
+ghost use Rattle.psac_series.specs.Texts.{AreDistinct};
 
 /// Where no text stands in a list twice, none does once a text, or a field, came to it. So the number of a text says
 /// which text it is.
@@ -17,14 +17,18 @@ pub fn texts_stay_distinct()
         → field bytes texts ≡ Ok told → AreDistinct told.1 }
 {}
 
-/// The digits of a program's text stand for the number that they write in tens, and for none where that is 2 ^ 63 or
-/// more.
-pub fn a_number_is_its_digits()
-    ensures { (digits : List ℕ) → int_of digits ≡
-        (if nat_lt (digits_value digits) (2 ^ 63) then Some (digits_value digits) else None) }
-{}
-
 /// Between tokens blanks and comments are skipped, and nothing else.
 pub fn blanks_and_comments_are_skipped()
     ensures { (bytes : List ℕ) (place : Place) → Leaves bytes (skip false bytes place).0 }
+{}
+
+/// Behind its opening quote a TEXT goes to the quote that closes it, and stands for what its bytes and escapes do.
+/// Where none closes it there is none.
+pub fn a_text_is_what_its_quotes_hold()
+    ensures closes { (bytes : List ℕ) (n : ℕ) → closing false 0 bytes ≡ Some n
+        → Closes (take n bytes) (content false bytes) }
+    ensures ends { (spelled text rest : List ℕ) → Closes spelled text
+        → closing false 0 (spelled ++ rest) ≡ Some (length spelled) }
+    ensures stands_for { (spelled text rest : List ℕ) → Closes spelled text
+        → content false (spelled ++ rest) ≡ text }
 {}

@@ -13,7 +13,8 @@ use Rattle.psac_syntax.specs.declared.program.Stmt.TheFolds as stmt_folds
 use Rattle.psac_syntax.specs.declared.program.Stmt.TheVariants as s
 use Rattle.psac_syntax.specs.declared.program.ReadItem.{ReadItem}
 use Rattle.psac_syntax.specs.declared.program.Program.{Program}
-use Rattle.psac_syntax.specs.Folds.{expr_fold, expr_fold_out, stmt_fold_out}
+use Rattle.psac_syntax.specs.Folds.{expr_fold}
+use Rattle.psac_syntax.proofs.Folds.{expr_fold_out, stmt_fold_out}
 use Rattle.psac_spelling.specs.Canonical.{bytes_at, name_text, quoted, truth, applied, Lines, joined, assigned, item_text, header_text, body_text, expr_step, expr_text, stmt_step, lines_step, stmt_text, content_text}
 
 expr_layer : (p : Program) (x : Expr) (y : Expr-F Expr) → out-Expr x ≡ y → expr_text p x ≡ expr_step p (expr_folds.map-Expr Expr (List ℕ) (expr_text p) y)

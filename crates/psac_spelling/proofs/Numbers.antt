@@ -1,5 +1,5 @@
 -- An INT is read back from its digits.
-use Rattle.std.proofs.Common.{◌≡◌, ℕ, pos, ◌+◌, ◌-◌, ◌*◌, ◌/◌, ◌%◌, ◌<◌, ◌≤◌, ◌^◌, Bool, true, false, List, [], ◌∷◌, ◌++◌, length, length-append, refl, ap, ◌∙◌, arith, Some, None}
+use Rattle.std.proofs.Common.{◌≡◌, ℕ, pos, ◌+◌, ◌-◌, ◌*◌, ◌/◌, ◌%◌, ◌<◌, ◌≤◌, ◌^◌, Bool, true, false, List, [], ◌∷◌, ◌++◌, length, length-append, refl, ap, sym, ◌∙◌, arith, Some, None}
 use Rattle.std.specs.Prelude.{decimal, nat_lt, if◌then◌else◌}
 use Rattle.std.specs.List.{prefix_len}
 use Rattle.std.proofs.lemmas.Bool.{and_parts, and_from, lt-ltb}
@@ -8,7 +8,8 @@ use Rattle.std.proofs.lemmas.Fmt.{decimal_by_steps}
 use Rattle.psac_syntax.specs.declared.program.Program.{Program}
 use Rattle.psac_tokens.specs.declared.token.Kind.TheVariants as k
 use Rattle.psac_tokens.specs.Lex.{is_digit, front}
-use Rattle.psac_tokens.specs.Number.{int_after, int_of}
+use Rattle.psac_tokens.specs.Number.{int_of}
+use Rattle.psac_tokens.proofs.Digits.{digits_are, int_after}
 use Rattle.psac_spelling.proofs.Pieces.{number, Fronts}
 use Rattle.psac_spelling.proofs.Words.{all_pass, prefix_all, digits_end, digit_solid, digit_no_letter, Break, fronts_at}
 
@@ -63,7 +64,7 @@ one_more : (n c : ℕ) → n * 10 + (c - 48) < 2 ^ 63 → int_after n (c ∷ [])
 one_more n c low = let e : nat_lt (n * 10 + (c - 48)) (2 ^ 63) ≡ true = lt-ltb (n * 10 + (c - 48)) (2 ^ 63) low in rw e refl
 
 abbrev Valued : ℕ → List ℕ → Type 0
-Valued n ds = n < 2 ^ 63 → int_of ds ≡ Some n
+Valued n ds = n < 2 ^ 63 → int_after 0 ds ≡ Some n
 
 one_digit : (n : ℕ) → n < 10 → Valued n ((48 + n) ∷ [])
 one_digit n one low = one_more 0 (48 + n) (omega arith) ∙ ap Some (omega arith)
@@ -73,4 +74,4 @@ next_digit n ds ten h low =
     int_after-append 0 (48 + n % 10) (n / 10) ds (h (omega arith)) ∙ one_more (n / 10) (48 + n % 10) (omega arith) ∙ ap Some (omega arith)
 
 pub value_of : (n : ℕ) → n < 2 ^ 63 → int_of (decimal n) ≡ Some n
-value_of n low = decimal_by_steps Valued one_digit next_digit n (omega arith) low
+value_of n low = sym (digits_are (decimal n)) ∙ decimal_by_steps Valued one_digit next_digit n (omega arith) low

@@ -1,5 +1,5 @@
 -- Names, texts and reads are numbered again as they were.
-use Rattle.std.proofs.Common.{◌≡◌, ℕ, ℤ, pos, suc, zero, ◌+◌, ◌-◌, ◌*◌, ◌<◌, ◌^◌, Bool, true, false, cond, List, [], ◌∷◌, ◌++◌, length, refl, sym, ap, subst, arith, Option, Some, None}
+use Rattle.std.proofs.Common.{◌≡◌, ℕ, ℤ, pos, suc, zero, ◌+◌, ◌-◌, ◌*◌, ◌<◌, ◌^◌, Bool, true, false, cond, List, [], ◌∷◌, ◌++◌, length, refl, sym, ap, ◌∙◌, subst, arith, Option, Some, None}
 use Rattle.std.specs.Prelude.{◌==◌, nat_lt, flat_map, slice_get, if◌then◌else◌}
 use Rattle.std.specs.Str.{bytes_eq}
 use Rattle.std.proofs.lemmas.Bool.{eqb-true, eqb-false, ltb-true}
@@ -9,7 +9,8 @@ use Rattle.psac_tokens.specs.declared.token.Kind.{Kind}
 use Rattle.psac_tokens.specs.declared.token.Kind.TheVariants as k
 use Rattle.psac_tokens.specs.declared.token.Token.{Token}
 use Rattle.psac_tokens.specs.Lex.{Lexeme}
-use Rattle.psac_tokens.specs.Number.{int_of, int_after, number_or_zero, is_over, place_of, with_word, names_with, texts_with, reads_with, text_of, token_of, tokens_after, names_after, texts_after, reads_after}
+use Rattle.psac_tokens.proofs.Digits.{digits_are, int_after}
+use Rattle.psac_tokens.specs.Number.{int_of, number_or_zero, is_over, place_of, with_word, names_with, texts_with, reads_with, text_of, token_of, tokens_after, names_after, texts_after, reads_after}
 use Rattle.psac_spelling.specs.Canonical.{bytes_at, name_text, quoted}
 use Rattle.psac_spelling.proofs.Pieces.{Piece, number, name, text, block, plain, Bare, kind_of, kind_text, spell, Lexes}
 use Rattle.psac_spelling.proofs.Numbers.{value_of}
@@ -127,7 +128,7 @@ int_low n m (c ∷ cs) low h = by (nat_lt (n * 10 + (c - 48)) (2 ^ 63)) refl (λ
     by false is rest h = absurd cc
 
 int_in : (ds : List ℕ) (o : Option ℕ) → int_of ds ≡ o → is_over o ≡ false → InInt (number_or_zero o)
-int_in ds (Some n) is h = record { size = n; is = refl; low = int_low 0 n ds (omega arith) is }
+int_in ds (Some n) is h = record { size = n; is = refl; low = int_low 0 n ds (omega arith) (digits_are ds ∙ is) }
 int_in ds None is h = absurd cc
 
 -- a name and a text stand where their tokens say

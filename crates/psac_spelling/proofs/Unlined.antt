@@ -6,7 +6,8 @@ use Rattle.psac_syntax.specs.declared.program.Stmt.{Stmt, out-Stmt}
 use Rattle.psac_syntax.specs.declared.program.Stmt.TheOpen.{Stmt-F}
 use Rattle.psac_syntax.specs.declared.program.Stmt.TheFolds as stmt_folds
 use Rattle.psac_syntax.specs.declared.program.Stmt.TheVariants as s
-use Rattle.psac_syntax.specs.Folds.{stmt_fold, stmt_fold_out}
+use Rattle.psac_syntax.specs.Folds.{stmt_fold}
+use Rattle.psac_syntax.proofs.Folds.{stmt_fold_out}
 use Rattle.psac_spelling.specs.Unlined.{unlined_step, unlined}
 
 layer : (x : Stmt) (y : Stmt-F Stmt) → out-Stmt x ≡ y → unlined x ≡ unlined_step (stmt_folds.map-Stmt Stmt Stmt unlined y)

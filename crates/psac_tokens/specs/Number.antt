@@ -7,13 +7,17 @@ use Rattle.psac_tokens.specs.declared.token.Kind.{Kind}
 use Rattle.psac_tokens.specs.declared.token.Kind.TheVariants as k
 use Rattle.psac_tokens.specs.Lex.{Lexeme, lexemes, content}
 
--- the number that the digits write behind those of n, below 2^63
-abbrev pub int_after : ℕ → List ℕ → Option ℕ
-int_after n [] = Some n
-int_after n (c ∷ cs) = if nat_lt (n * 10 + (c - 48)) (2 ^ 63) then int_after (n * 10 + (c - 48)) cs else None
+-- the number that decimal digits write: each digit counts ten times as much as the one behind it
+abbrev pub digits_value : List ℕ → ℕ
+digits_value [] = 0
+digits_value (digit ∷ more) = (digit - 48) * 10 ^ length more + digits_value more
+
+-- a number below 2^63
+abbrev pub in_63 : ℕ → Option ℕ
+in_63 n = if nat_lt n (2 ^ 63) then Some n else None
 
 abbrev pub int_of : List ℕ → Option ℕ
-int_of = int_after 0
+int_of digits = in_63 (digits_value digits)
 
 abbrev pub max_name : ℕ
 max_name = 32

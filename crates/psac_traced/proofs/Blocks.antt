@@ -8,7 +8,7 @@ use Rattle.psac_syntax.specs.declared.program.Stmt.TheOpen.{Stmt-F}
 use Rattle.psac_syntax.specs.declared.program.Stmt.TheFolds.{fold-Stmt, fold-roll-Stmt, ind-Stmt}
 use Rattle.psac_syntax.specs.declared.program.ReadItem.{ReadItem}
 use Rattle.psac_syntax.specs.declared.program.Func.{Func}
-use Rattle.psac_syntax.specs.Folds.{stmt_fold_is, stmt_fold_out}
+use Rattle.psac_syntax.proofs.Folds.{stmt_fold_is, stmt_fold_out}
 use Rattle.psac_syntax.specs.declared.program.Program.{Program}
 use Rattle.psac_model.specs.Run.{func_named}
 use Rattle.psac_model.specs.Fresh.{main_of, is_named_main}

@@ -1,4 +1,4 @@
-use Rattle.psac_series.proofs.Digits.{added_distinct, field_distinct}
+use Rattle.psac_series.proofs.Distinct.{added_distinct, field_distinct}
 use Rattle.psac_series.proofs.texts.texts_stay_distinct.Goals as goal
 
 pub returns-clause-added : goal.returns-clause-added

@@ -8,7 +8,8 @@ use Rattle.psac_syntax.specs.declared.program.Stmt.{Stmt, out-Stmt}
 use Rattle.psac_syntax.specs.declared.program.Stmt.TheOpen.{Stmt-F}
 use Rattle.psac_syntax.specs.declared.program.Stmt.TheFolds as stmt_folds
 use Rattle.psac_syntax.specs.declared.program.Func.{Func}
-use Rattle.psac_syntax.specs.Folds.{expr_fold, expr_fold_out, stmt_fold, stmt_fold_out}
+use Rattle.psac_syntax.specs.Folds.{expr_fold, stmt_fold}
+use Rattle.psac_syntax.proofs.Folds.{expr_fold_out, stmt_fold_out}
 use Rattle.psac_model.specs.Series.{Breach, Scope, Rule, expr_step, expr_wrong, rule_step, rule_of}
 
 pub expr_wrong_layer : (s : Scope) (w : List ℕ) (x : Expr) (y : Expr-F Expr) → out-Expr x ≡ y → expr_wrong s w x ≡ expr_step s w (expr_folds.map-Expr Expr (Option Breach) (expr_wrong s w) y)

@@ -1,17 +1,15 @@
--- A list of distinct texts stays one, and digits stand for the number that they write.
-use Rattle.std.proofs.Common.{◌≡◌, ℕ, zero, suc, ◌+◌, ◌-◌, ◌*◌, ◌^◌, ◌≤◌, true, false, if◌then◌else◌, nat_lt, List, [], ◌∷◌, ◌++◌, length, Option, Some, None, Ok, slice_get, ◌⊎◌, inl, inr, refl, ap, sym, ◌∙◌, subst, arith}
+-- A list of distinct texts stays one.
+use Rattle.std.proofs.Common.{◌≡◌, ℕ, zero, suc, ◌+◌, true, List, [], ◌∷◌, ◌++◌, length, Option, Some, None, Ok, slice_get, ◌⊎◌, inl, inr, refl, ap, sym, ◌∙◌, subst}
 use Rattle.std.specs.List.{position_from}
 use Rattle.std.specs.Str.{bytes_eq, is_utf8}
 use Rattle.std.proofs.lemmas.Slice.Eq.{bytes_eq-Decides}
-use Rattle.std.proofs.lemmas.Bool.Decides.{nat_tests}
 use Rattle.psac_ops.specs.declared.plain.TextId.{TextId}
 use Rattle.psac_ops.specs.declared.plain.Plain.{Plain}
 use Rattle.psac_base.specs.Number as decimal
 use Rattle.psac_inputs.specs.Texts.{Texts, has_room, placed, added, field, field_by}
-use Rattle.psac_tokens.specs.Number.{int_after, int_of}
 use Rattle.psac_laws.proofs.Places.{none_some, some_is, test_or}
 use Rattle.psac_laws.proofs.Results.{ok_is, ok_then}
-use Rattle.psac_series.specs.Texts.{AreDistinct, digits_value}
+use Rattle.psac_series.specs.Texts.{AreDistinct}
 
 -- what stands at a place of a list with one more
 at_more : (xs : Texts) (new : List ℕ) (i : ℕ) (bytes : List ℕ) → slice_get (xs ++ new ∷ []) i ≡ Some bytes
@@ -87,42 +85,3 @@ field_distinct_by None bytes texts told apart h =
 pub field_distinct : (bytes : List ℕ) (texts : Texts) (told : Plain × Texts) → AreDistinct texts
     → field bytes texts ≡ Ok told → AreDistinct told.1
 field_distinct bytes texts told apart h = field_distinct_by (decimal.int_of bytes) bytes texts told apart h
-
--- numbers
-still_over : (a b m : ℕ) → a ≤ b → nat_lt a m ≡ false → nat_lt b m ≡ false
-still_over a b m l h = grind (arith, nat_tests)
-
-some_tens : (n : ℕ) → 1 ≤ 10 ^ n
-some_tens zero = omega arith
-some_tens (suc n) = let more = some_tens n in omega arith
-
-in_tens : (n d p v : ℕ) → n * (10 * p) + (d * p + v) ≡ (n * 10 + d) * p + v
-in_tens n d p v = omega arith
-
-not_less : (a p v : ℕ) → 1 ≤ p → a ≤ a * p + v
-not_less a p v h = grind arith
-
-abbrev below : ℕ → Option ℕ
-below n = if nat_lt n (2 ^ 63) then Some n else None
-
-digits_behind : (n : ℕ) (cs : List ℕ) → nat_lt n (2 ^ 63) ≡ true
-    → int_after n cs ≡ below (n * 10 ^ length cs + digits_value cs)
-digits_behind n [] h =
-    let e : n * 1 + 0 ≡ n = omega arith in
-    rw (e, h) refl
-digits_behind n (c ∷ cs) h =
-    let next : ℕ = n * 10 + (c - 48) in
-    let p : ℕ = 10 ^ length cs in
-    let tens : 10 ^ suc (length cs) ≡ 10 * p = omega arith in
-    let e : n * 10 ^ suc (length cs) + ((c - 48) * p + digits_value cs) ≡ next * p + digits_value cs = ap
-    (λ z. n * z + ((c - 48) * p + digits_value cs)) tens ∙ in_tens n (c - 48) p (digits_value cs) in
-    elim (test_or (nat_lt next (2 ^ 63))) [
-      | inl t ↦ rw t (digits_behind next cs t ∙ ap below (sym e))
-      | inr t ↦
-          (let over = still_over next (next * p + digits_value cs) (2 ^ 63)
-          (not_less next p (digits_value cs) (some_tens (length cs))) t in
-          rw (t, e, over) refl)
-    ]
-
-pub digits_are : (cs : List ℕ) → int_of cs ≡ below (digits_value cs)
-digits_are cs = digits_behind 0 cs refl ∙ ap below (omega arith)

@@ -8,7 +8,8 @@ use Rattle.psac_syntax.specs.declared.program.Expr.{Expr, out-Expr}
 use Rattle.psac_syntax.specs.declared.program.Expr.TheOpen.{Expr-F}
 use Rattle.psac_syntax.specs.declared.program.Expr.TheVariants as e
 use Rattle.psac_syntax.specs.declared.program.Expr.TheFolds as folds
-use Rattle.psac_syntax.specs.Folds.{expr_fold, expr_fold_out}
+use Rattle.psac_syntax.specs.Folds.{expr_fold}
+use Rattle.psac_syntax.proofs.Folds.{expr_fold_out}
 use Rattle.psac_model.specs.declared.ends.FaultKind.{FaultKind}
 use Rattle.psac_model.specs.Names.{Env, bound}
 use Rattle.psac_model.specs.Expression.{Setting, value_of, value_step, or_kind, of_op, in_order, cell_at, text_at}
