@@ -1,28 +1,16 @@
 -- What a sole pass knows of the table.
-use Rattle.std.proofs.Common.{◌≡◌, ◌≢◌, ℕ, zero, suc, ◌*◌, ◌<◌, ◌≤◌, List, [], ◌∷◌, map, length, drop, true, false, true≢false, refl, sym, ap, ◌∙◌, subst, inl, ⊎_elim, arith}
-use Rattle.psac_marks.proofs.Terms.{lt-ltb, cases_eq, some, some-injective, get_elem?, at_map, Handle, Member, slot_times, once_below, ClaimView, bit, found, OwnView, SharedView, MarksView, state_at, Place, own_place, shared_place, places, claims_of, rights_of, tree_of, held_times, Marked}
+use Rattle.std.proofs.Common.{◌≡◌, ◌≢◌, ℕ, ◌*◌, ◌<◌, List, [], map, length, drop, true, false, true≢false, refl, sym, ap, ◌∙◌, subst, ⊎_elim, arith}
+use Rattle.psac_marks.proofs.Terms.{none_in, dropped_at, at_mapped, lt-ltb, cases_eq, some, some-injective, get_elem?, at_map, Member, slot_times, once_below, ClaimView, bit, found, SharedView, MarksView, state_at, Place, places, claims_of, rights_of, tree_of, held_times, Marked}
 use Rattle.psac_slots.proofs.Rewinds as turns
-use Rattle.psac_marks.proofs.Parts.{place_cases}
-use Rattle.psac_marks.proofs.Keeps.{at_mapped, held_is}
-
-none_in : {A : Type 0} (l : List A) → ((x : A) → Member x l → ⊥) → l ≡ []
-none_in [] f = refl
-none_in (x ∷ l) f = absurd (f x (inl refl))
-
-pub dropped_at : (l : List Handle) (c : ℕ) (x : Handle) → Member x (drop c l) → (k : ℕ) × (c ≤ k) × (get_elem? l k ≡ some x)
-dropped_at [] zero x m = absurd m
-dropped_at [] (suc c) x m = absurd m
-dropped_at (y ∷ l) zero x m = ⊎_elim (λ e. (0, omega arith, ap some e)) (λ r. let q = dropped_at l zero x r in (suc q.0, omega arith, q.2)) m
-dropped_at (y ∷ l) (suc c) x m = let q = dropped_at l c x m in let le = q.1 in (suc q.0, omega (arith, le), q.2)
+use Rattle.psac_marks.proofs.Parts.{each_place}
+use Rattle.psac_marks.proofs.Keeps.{held_is}
 
 module _ (nodes : ℕ) (words : List ℕ) (views : List MarksView) (h : Marked nodes words views) where
   -- a pass that isn't live has no node
   pub idle : (j : ℕ) (u : MarksView) → get_elem? views j ≡ some u → u.claims.live ≡ false → (e : Place) → Member e (places u) → ⊥
   idle j u d dead e m =
-      let o = h.rights.own j (rights_of u) (at_map rights_of views j u d) in ⊎_elim
-      (λ (p : (k : OwnView) × Member k u.own × (own_place u.claims.branch k ≡ e)). true≢false (sym (o.rises p.0 p.1) ∙ dead))
-      (λ (p : (k : SharedView) × Member k u.shared × (shared_place k ≡ e)). true≢false (sym (o.awake p.0 p.1) ∙ dead))
-      (place_cases u e m)
+      let o = h.rights.own j (rights_of u) (at_map rights_of views j u d) in
+      each_place u (λ _. ⊥) (λ k q. true≢false (sym (o.rises k q) ∙ dead)) (λ k q. true≢false (sym (o.awake k q) ∙ dead)) e m
 
   module _ (id : ℕ) (v : MarksView) (at : get_elem? views id ≡ some v) (live : v.claims.live ≡ true) (empty : v.claims.branch ≡ []) where
     pub dead : (j : ℕ) (u : MarksView) → j ≢ id → get_elem? views j ≡ some u → u.claims.live ≡ false

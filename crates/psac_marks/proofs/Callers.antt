@@ -1,7 +1,7 @@
 -- What a caller needs of claims, raises, forks and joins.
 use Rattle.std.proofs.Common.{◌≡◌, ℕ, List, [], ◌∷◌, ◌++◌, map, length, Bool, true, false, refl, sym, ap, ◌∙◌, subst, inl, inr, ⊎_elim, arith, Option, Some, None}
-use Rattle.psac_marks.proofs.Terms.{◌==◌, cond, filter, not, sum_by-append, le-ltb, Handle, stem, Member, comes_back as returns, lends, times, stem_push, member_left, member_right, map_member, filter_member, OwnView, SharedView, MarksView, Place, own_place, shared_place, places, ways, now_shared, joined, Owns, Keeps, IsKept, IsBusy, Leads, Claims, took, climbed, one_of}
-use Rattle.psac_marks.proofs.Parts.{place_own, place_shared, place_cases}
+use Rattle.psac_marks.proofs.Terms.{filter, not, le-ltb, Handle, stem, Member, comes_back as returns, lends, times, stem_push, member_left, member_right, map_member, filter_member, OwnView, SharedView, MarksView, Place, own_place, shared_place, places, ways, now_shared, joined, Owns, Keeps, IsKept, IsBusy, Leads, Claims, took}
+use Rattle.psac_marks.proofs.Parts.{each_place, place_own, place_shared}
 
 -- a path stays where nodes and marks only come, and none is dropped
 pub leads_on : (v w : MarksView) → ((e : Place) → Member e (places v) → Member e (places w)) → w.dropped ≡ v.dropped → ((x : ℕ) → IsBusy v x → IsBusy w x) → (x : ℕ) (path : List Place) → Leads v x path → Leads w x path
@@ -16,14 +16,9 @@ module _ (v : MarksView) (h : Handle) (par : Option ℕ) (w : MarksView) (c : Cl
   pub claimed_dropped : w.dropped ≡ v.dropped
   claimed_dropped = ap (λ (u : MarksView). u.dropped) c.becomes
 
-  pub claimed_shared : w.shared ≡ v.shared
-  claimed_shared = ap (λ (u : MarksView). u.shared) c.becomes
-
   claimed_places : (e : Place) → Member e (places v) → Member e (places w)
-  claimed_places e m = subst (λ (u : MarksView). Member e (places u)) (sym c.becomes) (⊎_elim
-      (λ (p : (o : OwnView) × Member o v.own × (own_place v.claims.branch o ≡ e)). subst (λ z. Member z (places (took v c.index h par))) p.2 (place_own (took v c.index h par) p.0 (inr p.1)))
-      (λ (p : (s : SharedView) × Member s v.shared × (shared_place s ≡ e)). subst (λ z. Member z (places (took v c.index h par))) p.2 (place_shared (took v c.index h par) p.0 p.1))
-      (place_cases v e m))
+  claimed_places e m = subst (λ (u : MarksView). Member e (places u)) (sym c.becomes)
+      (each_place v (λ e. Member e (places (took v c.index h par))) (λ o m. place_own (took v c.index h par) o (inr m)) (place_shared (took v c.index h par)) e m)
 
   pub claimed_leads : (x : ℕ) (path : List Place) → Leads v x path → Leads w x path
   claimed_leads = leads_on v w claimed_places claimed_dropped (λ x b. subst (λ (u : MarksView). IsBusy u x) (sym c.becomes) b)
@@ -45,13 +40,6 @@ leads_root v h kept m = (refl, place_own v (record { node = h; parent = None }) 
 -- and so does a child of what does
 pub leads_child : (v : MarksView) (h : Handle) (p : ℕ) (path : List Place) → IsKept v h.slot → Member (record { node = h; parent = Some p }) v.own → Leads v p path → Leads v h.slot (own_place v.claims.branch (record { node = h; parent = Some p }) ∷ path)
 leads_child v h p path kept m l = (refl, place_own v (record { node = h; parent = Some p }) m, kept, inr (inr (p, refl, l)))
-
--- after a raise
-pub raised_leads : (v : MarksView) (xs : List ℕ) (end : Option ℕ) (x : ℕ) (path : List Place) → Leads v x path → Leads (climbed xs end v) x path
-raised_leads v xs end = leads_on v (climbed xs end v) (λ e m. m) refl (λ x b. ⊎_elim
-    (λ p. inl (let a = sum_by-append (λ (k : ℕ). cond (k == x) 1 0) v.marked xs in omega (arith, a, p)))
-    (λ p. inr (let a = sum_by-append (λ (k : ℕ). cond (k == x) 1 0) v.busy (one_of end) in omega (arith, a, p)))
-    b)
 
 -- a child of a root leads up
 pub leads_two : (v : MarksView) (top mid : Handle) → v.dropped ≡ [] → Member (record { node = mid; parent = Some top.slot }) v.own → Member (record { node = top; parent = None }) v.own → (path : List Place) × Leads v mid.slot path

@@ -1,8 +1,8 @@
 -- What a pass of marks carries after each step.
 use Rattle.std.proofs.Common.{◌≡◌, ◌≢◌, ℕ, suc, ◌+◌, ◌/◌, ◌%◌, ◌<◌, ◌≤◌, List, [], ◌∷◌, ◌++◌, map, length, cond, refl, sym, ap, ◌∙◌, subst, inl, inr, ⊎_elim, arith, Option, Some, None}
-use Rattle.psac_marks.proofs.Terms.{◌==◌, IfSome, map-append, sum_by_push, eq-eqb, ne_eqb, Handle, Member, slot_times, IsDistinct, bit, member_right, member_cases, map_member, member_times, claimed_entry, OwnView, SharedView, StateView, MarksView, Place, own_place, shared_place, places, Has, handle_of, out_word, free_word, Tells, new_own, new_state, drew, Lacks, hang, hung, put, stated, cleared, asked, detached, Carries, Keeps, slot_of, climbed, took}
+use Rattle.psac_marks.proofs.Terms.{HasOwn, Owns, none_some, same_some as some_same, ◌==◌, IfSome, map-append, sum_by_push, eq-eqb, ne_eqb, Handle, Member, slot_times, IsDistinct, bit, member_cases, map_member, member_times, claimed_entry, OwnView, StateView, MarksView, Place, own_place, shared_place, places, Has, handle_of, out_word, free_word, Tells, new_own, new_state, drew, Lacks, hang, hung, put, stated, cleared, asked, detached, Carries, Keeps, slot_of, climbed, took}
 use Rattle.psac_slots.specs.Claiming as claiming
-use Rattle.psac_marks.proofs.Parts.{place_own, place_shared, place_cases}
+use Rattle.psac_marks.proofs.Parts.{each_place, place_own, place_shared}
 use Rattle.psac_marks.proofs.Stays.{back_again}
 
 module _ (nodes head room words : ℕ) (v : MarksView) (p : Carries nodes head room words v) where
@@ -24,6 +24,17 @@ module _ (nodes head room words : ℕ) (v : MarksView) (p : Carries nodes head r
     low = low;
   }
 
+  -- so does a view that is this one, of a table of that size
+  pub carried : (size : ℕ) (w : MarksView) → size ≡ words → w ≡ v → Carries nodes head room size w
+  carried size w e f = subst (λ (x : ℕ × MarksView). Carries nodes head room x.0 x.1) (λ j. (sym e j, sym f j)) p
+
+  -- an own node is one of the table's
+  pub own_low : (x : Handle) (old : MarksView) → v ≡ old → Owns old x → HasOwn v.own x.slot × (x.slot < nodes)
+  own_low x old is o =
+      let k = subst (λ (u : MarksView). Owns u x) (sym is) o in
+      let s = ap (λ (h : Handle). h.slot) k.2 in
+      ((k.0, k.1, s), subst (λ n. n < nodes) s (p.low (own_place v.claims.branch k.0) (place_own v k.0 k.1)))
+
   pub carries_cleared : (x : ℕ) → Carries nodes head room words (cleared x v)
   carries_cleared x = renewed (cleared x v) refl refl refl refl p.climb p.held_is p.out p.low
 
@@ -41,11 +52,9 @@ module _ (nodes head room words : ℕ) (v : MarksView) (p : Carries nodes head r
   carries_past n e = renewed (drew v n) refl refl refl refl p.climb
       (map-append handle_of v.states (map new_state (claiming.entry v.claims.list n)) ∙ (λ i. p.held_is i ++ back_again (claiming.entry v.claims.list n) i))
       (λ t m. ⊎_elim (λ q. p.out t q) (λ q. absurd (subst (Member t) (ap (map new_state) e) q)) (member_cases t v.states (map new_state (claiming.entry v.claims.list n)) m))
-      (λ k m. ⊎_elim
-      (λ (q : (o : OwnView) × Member o (drew v n).own × (own_place v.claims.branch o ≡ k)). subst (λ (z : Place). z.node.slot < nodes) q.2
-      (p.low (own_place v.claims.branch q.0) (place_own v q.0 (subst (λ (l : List Handle). Member q.0 (map new_own l ++ v.own)) e q.1))))
-      (λ (q : (s : SharedView) × Member s v.shared × (shared_place s ≡ k)). subst (λ (z : Place). z.node.slot < nodes) q.2 (p.low (shared_place q.0) (place_shared v q.0 q.1)))
-      (place_cases (drew v n) k m))
+      (each_place (drew v n) (λ k. k.node.slot < nodes)
+      (λ o m. p.low (own_place v.claims.branch o) (place_own v o (subst (λ (l : List Handle). Member o (map new_own l ++ v.own)) e m)))
+      (λ s m. p.low (shared_place s) (place_shared v s m)))
 
   -- a claim of a node
   pub carries_took : (n : ℕ) (h : Handle) (par : Option ℕ) → claiming.entry v.claims.list n ≡ h ∷ [] → h.slot < v.claims.count → Carries nodes head room words (took v n h par)
@@ -54,13 +63,12 @@ module _ (nodes head room words : ℕ) (v : MarksView) (p : Carries nodes head r
       (λ t m. ⊎_elim (λ q. p.out t q)
       (λ q. ⊎_elim (λ (z : record { of = h; word = out_word h } ≡ t). subst (λ (y : StateView). (y.word ≡ out_word y.of) × (y.of.slot < nodes)) z (refl, (let k = p.nodes_is in omega (arith, low, k)))) (λ b. absurd b) q)
       (member_cases t v.states (record { of = h; word = out_word h } ∷ []) m))
-      (λ k m. ⊎_elim
-      (λ (q : (o : OwnView) × Member o (record { node = h; parent = par } ∷ v.own) × (own_place v.claims.branch o ≡ k)). subst (λ (z : Place). z.node.slot < nodes) q.2 (⊎_elim
-      (λ (z : record { node = h; parent = par } ≡ q.0). let s = ap (λ (o : OwnView). o.node.slot) z in let c = p.nodes_is in omega (arith, low, s, c))
-      (λ z. p.low (own_place v.claims.branch q.0) (place_own v q.0 z))
-      q.1))
-      (λ (q : (s : SharedView) × Member s v.shared × (shared_place s ≡ k)). subst (λ (z : Place). z.node.slot < nodes) q.2 (p.low (shared_place q.0) (place_shared v q.0 q.1)))
-      (place_cases (took v n h par) k m))
+      (each_place (took v n h par) (λ k. k.node.slot < nodes)
+      (λ o m. ⊎_elim
+      (λ (z : record { node = h; parent = par } ≡ o). let s = ap (λ (o : OwnView). o.node.slot) z in let c = p.nodes_is in omega (arith, low, s, c))
+      (λ z. p.low (own_place v.claims.branch o) (place_own v o z))
+      m)
+      (λ s m. p.low (shared_place s) (place_shared v s m)))
 
 -- other nodes keep their parents
 hang_else : (x : ℕ) (par : Option ℕ) (os : List OwnView) → ((o : OwnView) → Member o os → o.node.slot ≢ x) → map (hang x par) os ≡ os
@@ -99,24 +107,7 @@ found_here nodes head room words v p n word i small is t =
     let spot : i ≡ claiming.place v.claims.count (v.claims.head + n) = is ∙ (λ j. suc ((sym p.head_is j + n) % sym p.nodes_is j)) in
     claimed_entry v.claims.list n word small (λ h e. t.entry n spot h e)
 
--- what a pass has it has after a claim
-pub drew_has : (v : MarksView) (n x : ℕ) → Has (places v) x → Has (places (drew v n)) x
-drew_has v n x p = (
-  p.0,
-  ⊎_elim
-      (λ (q : (o : OwnView) × Member o v.own × (own_place v.claims.branch o ≡ p.0)). subst (λ z. Member z (places (drew v n))) q.2 (place_own (drew v n) q.0 (member_right q.0 (map new_own (claiming.entry v.claims.list n)) v.own q.1)))
-      (λ (q : (s : SharedView) × Member s v.shared × (shared_place s ≡ p.0)). subst (λ z. Member z (places (drew v n))) q.2 (place_shared (drew v n) q.0 q.1))
-      (place_cases v p.0 p.1),
-  p.2,
-)
-
 -- a parent is a node that the pass has
 pub parent_has : (v : MarksView) (par : Option Handle) → IfSome par (λ h. Keeps v h) → (x : ℕ) → slot_of par ≡ Some x → Has (places v) x
 parent_has v None k x e = absurd (none_some x e)
-  where
-    none_some : (b : ℕ) → ◌≡◌ {A = Option ℕ} None (Some b) → ⊥
-    none_some b e = absurd (cc)
 parent_has v (Some h) k x e = (k.0, k.1, ap (λ (y : Handle). y.slot) k.2 ∙ some_same h.slot x e)
-  where
-    some_same : (a b : ℕ) → ◌≡◌ {A = Option ℕ} (Some a) (Some b) → a ≡ b
-    some_same a b e = cc

@@ -1,6 +1,6 @@
 -- A climb, node by node.
 use Rattle.std.proofs.Common.{◌≡◌, ◌≢◌, ◌⊎◌, ℕ, zero, suc, ◌-◌, ◌<◌, ◌≤◌, List, [], ◌∷◌, ◌++◌, length, refl, sym, ap, ◌∙◌, subst, inl, inr, ⊎_elim, arith, Option, Some, None, cond, append_assoc, append-nil, length-append}
-use Rattle.psac_marks.proofs.Terms.{eq-eqb, ne_eqb, cases_eq, ◌==◌, sum_by, sum_by-append, sum_by-cons, Member, times, MarksView, parent_word, Place, places, raised, climbs_from, IsBusy, IsKept, Leads, Rises, RaisedOne, MayRaise, climbed, one_of, bit}
+use Rattle.psac_marks.proofs.Terms.{none_some, same_some as some_same, eq-eqb, ne_eqb, cases_eq, ◌==◌, sum_by, sum_by-append, sum_by-cons, Member, times, MarksView, parent_word, Place, places, raised, climbs_from, IsBusy, IsKept, Leads, Rises, RaisedOne, MayRaise, climbed, one_of, bit}
 use Rattle.psac_marks.proofs.Parts.{times_push, bit_same}
 
 -- how many places are of nodes whose mark the pass doesn't have
@@ -28,12 +28,6 @@ no_parent (Some p) e = absurd (omega (arith, e))
 pub the_parent : (par : Option ℕ) (w : ℕ) → w ≡ parent_word par → w ≢ 0 → Some (w - 1) ≡ par
 the_parent None w e n = absurd (n e)
 the_parent (Some p) w e n = ap Some (omega (arith, e))
-
-some_same : (a b : ℕ) → ◌≡◌ {A = Option ℕ} (Some a) (Some b) → a ≡ b
-some_same a b e = cc
-
-none_some : (b : ℕ) → ◌≡◌ {A = Option ℕ} None (Some b) → ⊥
-none_some b e = absurd (cc)
 
 climbs_some : (y z : ℕ) (par : Option ℕ) → Some z ≡ par → climbs_from y par ≡ Some y
 climbs_some y z None e = absurd (none_some z (sym e))

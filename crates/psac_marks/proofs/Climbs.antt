@@ -1,6 +1,6 @@
 -- What steps make of the marks.
 use Rattle.std.proofs.Common.{◌≡◌, ◌≢◌, ℕ, ◌+◌, ◌*◌, ◌<◌, List, [], ◌∷◌, ◌++◌, length, set, refl, sym, ap, ◌∙◌, subst, inl, inr, ⊎_elim, arith, Option, Some, None}
-use Rattle.psac_marks.proofs.Terms.{◌==◌, filter, cases_eq, some, some-injective, get_elem?, set_here, set_else, Member, times, bit, sum_set, all_set, mark_at, Place, Raising, Has, marks, Supported, Climbing, climbs_from, other}
+use Rattle.psac_marks.proofs.Terms.{none_some, same_some as some_same, ◌==◌, filter, cases_eq, some, some-injective, get_elem?, set_here, set_else, Member, times, bit, sum_set, all_set, mark_at, Place, Raising, Has, marks, Supported, Climbing, climbs_from, other}
 use Rattle.psac_marks.proofs.Parts.{here, times_push, times_gone, times_else, bit_same, bit_other}
 
 -- a store beside the marks
@@ -14,15 +14,20 @@ climbs_else nodes words all i x far h = record {
   supported = h.supported;
 }
 
+-- support moves with the marks, and where its climbs do
+pub support_moves : (all after : List Raising) (e : Place) → ((z : ℕ) → 0 < marks z all → 0 < marks z after) → ((j : ℕ) (r : Raising) → get_elem? all j ≡ some r → r.climb ≡ Some e.node.slot → Supported after e)
+    → Supported all e → Supported after e
+support_moves all after e more climbs (inl root) = inl root
+support_moves all after e more climbs (inr (inl p)) = inr (inl (p.0, p.1, more p.0 p.2))
+support_moves all after e more climbs (inr (inr c)) = climbs c.0 c.1 c.2 c.3
+
 -- support stays where marks only come, and each climb that ends was of a node whose parent is marked
 pub support_stays : (all : List Raising) (id : ℕ) (r s : Raising) → get_elem? all id ≡ some r → ((z : ℕ) → 0 < marks z all → 0 < marks z (set all id s))
     → (e : Place) → (r.climb ≡ Some e.node.slot → Supported (set all id s) e) → Supported all e → Supported (set all id s) e
-support_stays all id r s at more e mine (inl root) = inl root
-support_stays all id r s at more e mine (inr (inl p)) = inr (inl (p.0, p.1, more p.0 p.2))
-support_stays all id r s at more e mine (inr (inr c)) = ⊎_elim
-    (λ (q : c.0 ≡ id). mine (ap (λ (u : Raising). u.climb) (some-injective r c.1 (sym at ∙ (ap (get_elem? all) (sym q) ∙ c.2))) ∙ c.3))
-    (λ n. inr (inr (c.0, c.1, set_else all id c.0 s n ∙ c.2, c.3)))
-    (cases_eq c.0 id)
+support_stays all id r s at more e mine = support_moves all (set all id s) e more (λ j k d c. ⊎_elim
+    (λ (q : j ≡ id). mine (ap (λ (u : Raising). u.climb) (some-injective r k (sym at ∙ (ap (get_elem? all) (sym q) ∙ d))) ∙ c))
+    (λ n. inr (inr (j, k, set_else all id j s n ∙ d, c)))
+    (cases_eq j id))
 
 module _ (nodes : ℕ) (words : List ℕ) (all : List Raising) (h : Climbing nodes words all) (id : ℕ) (r : Raising) (at : get_elem? all id ≡ some r) where
   -- the places and what is dropped are other ones
@@ -90,12 +95,6 @@ module _ (nodes : ℕ) (words : List ℕ) (all : List Raising) (h : Climbing nod
             (λ i k n f. λ c mc kc pc. backed i k c f mc kc pc) j u d e m kept p;
       }
     where
-      some_same : (a b : ℕ) → ◌≡◌ {A = Option ℕ} (Some a) (Some b) → a ≡ b
-      some_same a b e = cc
-
-      none_some : (b : ℕ) → ◌≡◌ {A = Option ℕ} None (Some b) → ⊥
-      none_some b e = absurd (cc)
-
       from_x : (par : Option ℕ) (z : ℕ) → climbs_from e0.node.slot par ≡ Some z → e0.node.slot ≡ z
       from_x None z e = absurd (none_some z e)
       from_x (Some p) z e = some_same e0.node.slot z e
@@ -136,9 +135,6 @@ module _ (nodes : ℕ) (words : List ℕ) (all : List Raising) (h : Climbing nod
             (λ c mc kc pc. backed id r c at mc kc pc)
             (λ i k n f. λ c mc kc pc. backed i k c f mc kc pc) j u d e m kept p;
       }
-    where
-      none_some : (b : ℕ) → ◌≡◌ {A = Option ℕ} None (Some b) → ⊥
-      none_some b e = absurd (cc)
 
   -- a node that no other pass has, and of whose children none is marked but for dropped ones, isn't marked
   pub climbs_clear : (x : ℕ) → x < nodes → nodes + 3 * nodes < length words

@@ -1,7 +1,7 @@
 -- How often a node stands in a list.
-use Rattle.std.proofs.Common.{◌≡◌, ◌⊎◌, ℕ, ◌+◌, ◌<◌, ◌≤◌, List, [], ◌∷◌, ◌++◌, Bool, true, false, true≢false, cond, refl, sym, ap, ◌∙◌, inl, inr, ⊎_elim, arith}
-use Rattle.psac_marks.proofs.Terms.{filter, ◌==◌, sum_by-cons, sum_by-append, eq-eqb, eqb-true, Member, times, bit}
-use Rattle.psac_marks.proofs.Parts.{bit_other}
+use Rattle.std.proofs.Common.{◌≡◌, ◌⊎◌, ℕ, ◌+◌, ◌<◌, ◌≤◌, List, [], ◌∷◌, ◌++◌, Bool, true, false, cond, refl, ap, inl, inr, ⊎_elim, arith}
+use Rattle.psac_marks.proofs.Terms.{◌==◌, sum_by-cons, sum_by-append, eq-eqb, eqb-true, Member, times, bit}
+pub use Rattle.psac_marks.proofs.Parts.{times_in, times_out}
 
 pub times_both : (x : ℕ) (xs ys : List ℕ) → times x (xs ++ ys) ≡ times x xs + times x ys
 times_both x xs ys = sum_by-append (λ (z : ℕ). cond (z == x) 1 0) xs ys
@@ -19,21 +19,3 @@ found_one x y ys more false e p = let c = sum_by-cons (λ (z : ℕ). cond (z == 
 pub times_found : (x : ℕ) (xs : List ℕ) → 0 < times x xs → Member x xs
 times_found x [] p = absurd (omega (arith, p))
 times_found x (y ∷ ys) p = found_one x y ys (λ q. times_found x ys q) (y == x) refl p
-
-in_one : (p : ℕ → Bool) (x y : ℕ) (ys : List ℕ) → p x ≡ true → times x (filter p ys) ≡ times x ys → (b : Bool) → p y ≡ b → times x (cond b (y ∷ filter p ys) (filter p ys)) ≡ times x (y ∷ ys)
-in_one p x y ys on r true e = let c = sum_by-cons (λ (z : ℕ). cond (z == x) 1 0) y ys in let d = sum_by-cons (λ (z : ℕ). cond (z == x) 1 0) y (filter p ys) in omega (arith, c, d, r)
-in_one p x y ys on r false e = let c = sum_by-cons (λ (z : ℕ). cond (z == x) 1 0) y ys in let t : bit (y == x) ≡ 0 = bit_other y x (λ q. true≢false (sym on ∙ (ap p (sym q) ∙ e))) in omega (arith, c, t, r)
-
--- a filter keeps all of what it keeps
-pub times_in : (p : ℕ → Bool) (x : ℕ) (ys : List ℕ) → p x ≡ true → times x (filter p ys) ≡ times x ys
-times_in p x [] on = refl
-times_in p x (y ∷ ys) on = in_one p x y ys on (times_in p x ys on) (p y) refl
-
-out_one : (p : ℕ → Bool) (x y : ℕ) (ys : List ℕ) → p x ≡ false → times x (filter p ys) ≡ 0 → (b : Bool) → p y ≡ b → times x (cond b (y ∷ filter p ys) (filter p ys)) ≡ 0
-out_one p x y ys off r true e = let d = sum_by-cons (λ (z : ℕ). cond (z == x) 1 0) y (filter p ys) in let t : bit (y == x) ≡ 0 = bit_other y x (λ q. true≢false (sym e ∙ (ap p q ∙ off))) in omega (arith, d, t, r)
-out_one p x y ys off r false e = r
-
--- and none of what it doesn't keep
-pub times_out : (p : ℕ → Bool) (x : ℕ) (ys : List ℕ) → p x ≡ false → times x (filter p ys) ≡ 0
-times_out p x [] off = refl
-times_out p x (y ∷ ys) off = out_one p x y ys off (times_out p x ys off) (p y) refl

@@ -1,8 +1,8 @@
 -- The children of an own node are the same pass's own.
-use Rattle.std.proofs.Common.{◌≡◌, ◌≢◌, ℕ, ◌<◌, List, map, length, true, true≢false, sym, ap, ◌∙◌, subst, refl, ⊎_elim, arith, Option, Some, None}
-use Rattle.psac_marks.proofs.Terms.{cases_eq, some, some-injective, get_elem?, at_map, is_prefix, Member, times, prefix_short_length, prefix_through, OwnView, SharedView, MarksView, Place, own_place, shared_place, places, claims_of, rights_of, tree_of, HasOwn, Raising, Marked, marks, marks_of, IsClosed, Bare}
+use Rattle.std.proofs.Common.{◌≡◌, ◌≢◌, ℕ, ◌<◌, List, map, length, true, true≢false, sym, ap, ◌∙◌, subst, refl, ⊎_elim, arith, Some, None}
+use Rattle.psac_marks.proofs.Terms.{at_mapped, none_some, same_some as some_same, cases_eq, some, some-injective, get_elem?, at_map, is_prefix, Member, times, prefix_short_length, prefix_through, OwnView, SharedView, MarksView, Place, own_place, shared_place, places, claims_of, rights_of, tree_of, HasOwn, Raising, Marked, marks, marks_of, IsClosed, Bare}
 use Rattle.psac_marks.proofs.Parts.{place_own, place_cases}
-use Rattle.psac_marks.proofs.Keeps.{at_mapped, own_alone, own_mark}
+use Rattle.psac_marks.proofs.Keeps.{own_alone, own_mark}
 
 module _ (nodes : ℕ) (words : List ℕ) (views : List MarksView) (h : Marked nodes words views) (id : ℕ) (v : MarksView) (at : get_elem? views id ≡ some v) (live : v.claims.live ≡ true) where
   -- a place that lies below the branch of a live pass is that pass's own
@@ -63,9 +63,3 @@ module _ (nodes : ℕ) (words : List ℕ) (views : List MarksView) (h : Marked n
             (h.climbs.supported id (marks_of v) (own_place v.claims.branch c) mine (place_own v c mc) kept marked);
         busy = λ o m p. let a = (h.climbs.busy id (marks_of v) o.node.slot mine p).1 in let b = whole o m in omega (arith, a, b);
       }
-    where
-      none_some : (b : ℕ) → ◌≡◌ {A = Option ℕ} None (Some b) → ⊥
-      none_some b e = absurd (cc)
-
-      some_same : (a b : ℕ) → ◌≡◌ {A = Option ℕ} (Some a) (Some b) → a ≡ b
-      some_same a b e = cc

@@ -1,13 +1,13 @@
 -- A sole pass gives a node back.
 use Rattle.std.proofs.Common.{◌≡◌, ◌≢◌, ℕ, ◌+◌, ◌<◌, ◌≤◌, List, [], ◌∷◌, ◌++◌, map, length, set, true, refl, sym, ap, ◌∙◌, subst, inl, ⊎_elim, arith, Option, Some, None, length-set, mod-lt}
-use Rattle.psac_marks.proofs.Terms.{filter, not, ◌==◌, eq-eqb, ne_eqb, cases_eq, some, some-injective, none as vacant, get_elem?, State, Allows, keeps, step, at_map, at_set, set_else, Handle, Member, word_of, later, slot_times, removed, times, Divided, sole_parts, one_given, filtered, sum_set, all_set, at_new, member_filter, filter_member, member_times, removed_gone, removed_else, off, changes, OwnView, SharedView, StateView, MarksView, state_at, free_word, Place, own_place, shared_place, places, claims_of, handle_of, ways, rights_of, Grown, tree_of, Raising, marks_of, Stating, states_of, Has, HasOwn, held_times, Tree, marks, Supported, Climbing, IsStated, AreStated, Marked, other, other_own, other_state, gave, Gave, Childless}
+use Rattle.psac_marks.proofs.Terms.{at_mapped, none_some, filter, not, ◌==◌, eq-eqb, ne_eqb, cases_eq, some, none as vacant, get_elem?, State, Allows, keeps, step, at_map, at_set, Handle, Member, word_of, later, slot_times, removed, times, Divided, sole_parts, one_given, filtered, sum_set, all_set, at_new, member_filter, filter_member, member_times, removed_gone, removed_else, off, changes, OwnView, SharedView, StateView, MarksView, state_at, free_word, Place, own_place, places, claims_of, handle_of, ways, rights_of, Grown, tree_of, Raising, marks_of, Stating, states_of, Has, HasOwn, held_times, Tree, marks, Supported, Climbing, IsStated, AreStated, Marked, other, other_own, other_state, gave, Gave, Childless}
 use Rattle.psac_slots.specs.Claiming as claiming
 use Rattle.psac_slots.proofs.Rewinds as turns
-use Rattle.psac_marks.proofs.Parts.{new_part, here, times_gone, times_else, place_own, place_cases}
-use Rattle.psac_marks.proofs.Trees.{tree_else}
+use Rattle.psac_marks.proofs.Parts.{each_place, each_has, has_own, new_part, times_gone, times_else, place_own}
+use Rattle.psac_marks.proofs.Trees.{some_stays, tree_else}
 use Rattle.psac_marks.proofs.Climbs.{climbs_else, support_stays}
 use Rattle.psac_marks.proofs.Stays.{states_else}
-use Rattle.psac_marks.proofs.Keeps.{met_after, held_low, at_mapped}
+use Rattle.psac_marks.proofs.Keeps.{step_to, held_low}
 use Rattle.psac_marks.proofs.Alone.{nobody_else, nothing_shared, all_held}
 use Rattle.psac_marks.proofs.Holding.{held_once}
 
@@ -51,19 +51,10 @@ module _ (x : ℕ) (gs ps : List Place) (id : ℕ) (cases : (e : Place) → Memb
           parents = λ j u e d m. let q = was j u e d m in h.parents id g e at q.2;
           out = λ j u e d m.
               let q = was j u e d m in
-              let o = h.out id g e at q.2 in
-              ⊎_elim
-              (λ (s : o.0 ≡ id). (id, f, here all id g f at, filter_member (λ (k : Handle). not (k.slot == x)) e.node hs (subst (λ (k : Grown). Member e.node k.held) (some-injective o.1 g (sym o.2 ∙ (ap (get_elem? all) s ∙ at))) o.3) (not_slot x e.node.slot q.3)))
-              (λ n. (o.0, o.1, set_else all id o.0 f n ∙ o.2, o.3))
-              (cases_eq o.0 id);
+              some_stays (λ (k : Grown). Member e.node k.held) all id g f at (λ has. filter_member (λ (k : Handle). not (k.slot == x)) e.node hs has (not_slot x e.node.slot q.3)) (h.out id g e at q.2);
           had = λ y p. ⊎_elim
               (λ (e : y ≡ x). let z = ap (λ k. held_times k after) e in absurd (omega (arith, p, z, gone)))
-              (λ (n : y ≢ x).
-              let o = h.had y (let a = same y n in omega (arith, a, p)) in
-              ⊎_elim
-              (λ (s : o.0 ≡ id). (id, f, here all id g f at, stays y n (subst (λ (k : Grown). Has k.places y) (some-injective o.1 g (sym o.2 ∙ (ap (get_elem? all) s ∙ at))) o.3)))
-              (λ m. absurd (nobody o.0 o.1 o.3.0 m o.2 o.3.1))
-              (cases_eq o.0 id))
+              (λ (n : y ≢ x). some_stays (λ (k : Grown). Has k.places y) all id g f at (stays y n) (h.had y (let a = same y n in omega (arith, a, p))))
               (cases_eq y x);
           dropped = λ j u y d p. all_set (λ _ (k : Grown). (z : ℕ) → 0 < times z k.dropped → HasOwn k.own z) all id f
               (λ z q. ⊎_elim
@@ -89,9 +80,6 @@ module _ (x : ℕ) (gs ps : List Place) (id : ℕ) (cases : (e : Place) → Memb
 
     abbrev pub marks_after : Raising
     marks_after = record { places = ps; dropped = filter (other x) ds; marked = ms; busy = bs; climb = None }
-
-    none_some : (y : ℕ) → ◌≡◌ {A = Option ℕ} None (Some y) → ⊥
-    none_some y e = absurd (cc)
 
     pub climbs_gives : get_elem? all id ≡ some marks_before → times x ms ≡ 0 → times x bs ≡ 0 → Climbing nodes words (set all id marks_after)
     climbs_gives at unmarked idle =
@@ -165,47 +153,32 @@ module _ (nodes : ℕ) (words : List ℕ) (views : List MarksView) (h : Marked n
       let at_marks = at_map marks_of views id v at in
       let alone_in = nobody_else nodes words views h id v at live empty in
       let unshared : (s : SharedView) → Member s v.shared → ⊥ = λ s q. absurd (subst (Member s) (nothing_shared nodes words views h id v at live empty) q) in
-      let cases : (e : Place) → Member e (places w) → Member e (places v) × (e.node.slot ≢ x) = λ e me. ⊎_elim
-      (λ (p : (o : OwnView) × Member o w.own × (own_place v.claims.branch o ≡ e)).
-      let q = member_filter (other_own x) p.0 v.own p.1 in
-      (subst (λ z. Member z (places v)) p.2 (place_own v p.0 q.0), λ s. other_slot x p.0.node.slot q.1 (ap (λ (z : Place). z.node.slot) p.2 ∙ s)))
-      (λ (p : (s : SharedView) × Member s v.shared × (shared_place s ≡ e)). absurd (unshared p.0 p.1))
-      (place_cases w e me) in
-      let stays : (y : ℕ) → y ≢ x → Has (places v) y → Has (places w) y = λ y ne p. ⊎_elim
-      (λ (q : (o : OwnView) × Member o v.own × (own_place v.claims.branch o ≡ p.0)).
-      let s : q.0.node.slot ≡ y = ap (λ (z : Place). z.node.slot) q.2 ∙ p.2 in
-      (own_place v.claims.branch q.0, place_own w q.0 (filter_member (other_own x) q.0 v.own q.1 (not_slot x q.0.node.slot (λ k. ne (sym s ∙ k)))), s))
-      (λ (q : (s : SharedView) × Member s v.shared × (shared_place s ≡ p.0)). absurd (unshared q.0 q.1))
-      (place_cases v p.0 p.1) in
-      record {
-        counter = h.counter;
-        head = h.head;
-        list = h.list ++ later g ∷ [];
-        parent = h.parent;
-        long = (let a = h.long in let b = length-set words i n in omega (arith, a, b));
-        claims = new_part claims_of (claiming.Claimed nodes h.counter h.head (h.list ++ later g ∷ []) ws) views id w
-            (turns.gives_at nodes h.counter h.head h.list words (map claims_of views) h.claims id v.claims (at_map claims_of views id v at) live empty none g has next);
-        rights = new_part rights_of (Divided ways) views id w (changes ways (map rights_of views) id (rights_of v) h.rights (at_map rights_of views id v at) live w.own
-            (λ o mo. inl (o, (member_filter (other_own x) o v.own mo).0, refl))
-            (λ o k mo mk is. (h.rights.own id (rights_of v) (at_map rights_of views id v at)).single o k (member_filter (other_own x) o v.own mo).0 (member_filter (other_own x) k v.own mk).0 is));
-        tree = new_part tree_of (Tree nodes h.parent ws) views id w
-            (tree_gives x (places v) (places w) id cases stays nodes h.parent ws (map tree_of views) (tree_else nodes h.parent words (map tree_of views) i n (λ y q. omega (arith, q, short)) h.tree) v.own v.dropped v.claims.held at_tree
-            (ap h.parent (sym go.slot) ∙ (h.tree.parents id (tree_of v) (own_place v.claims.branch go.own) at_tree (place_own v go.own go.has) ∙ go.root))
-            (omega (arith, mine, once)) held
-            (λ e me is. ⊎_elim
-            (λ (p : (o : OwnView) × Member o v.own × (own_place v.claims.branch o ≡ e)). subst (λ (z : Place). 0 < times z.node.slot v.dropped) p.2 (go.childless p.0 p.1 (ap (λ (z : Place). z.parent) p.2 ∙ is)))
-            (λ (p : (s : SharedView) × Member s v.shared × (shared_place s ≡ e)). absurd (unshared p.0 p.1))
-            (place_cases v e me))
-            (λ j k e ne d me. let u = at_mapped tree_of views j k d in alone_in j u.0 e ne u.1 (subst (λ (z : Grown). Member e z.places) (sym u.2) me)));
-        climbs = new_part marks_of (Climbing nodes ws) views id w
-            (subst (λ c. Climbing nodes ws (set (map marks_of views) id (record { places = places w; dropped = w.dropped; marked = v.marked; busy = v.busy; climb = c }))) (sym go.climb)
-            (climbs_gives x (places v) (places w) id cases stays nodes ws (map marks_of views) (climbs_else nodes words (map marks_of views) i n (λ y q. omega (arith, q, short)) h.climbs) v.dropped v.marked v.busy
-            (at_marks ∙ ap (λ c. some (record { places = places v; dropped = v.dropped; marked = v.marked; busy = v.busy; climb = c })) go.climb) go.unmarked go.idle));
-        states = new_part states_of (AreStated nodes h.counter (h.list ++ later g ∷ []) ws) views id w
-            (states_gives nodes h.counter h.list ws (map states_of views) (states_else nodes h.counter h.list words (map states_of views) i n (λ y q. omega (arith, q, short)) h.states) id (states_of v) (at_map states_of views id v at)
-            (later g) go.state go.known (ap (λ (z : Handle). z.slot) go.of) go.word);
-        met = met_after nodes words views h id v at w (h.met id v at);
-      }
+      let cases : (e : Place) → Member e (places w) → Member e (places v) × (e.node.slot ≢ x) = each_place w (λ e. Member e (places v) × (e.node.slot ≢ x))
+      (λ o mo. let q = member_filter (other_own x) o v.own mo in (place_own v o q.0, other_slot x o.node.slot q.1))
+      (λ s ms. absurd (unshared s ms)) in
+      let stays : (y : ℕ) → y ≢ x → Has (places v) y → Has (places w) y = λ y ne p. each_has v (λ z. z ≢ x → Has (places w) z)
+      (λ o mo n. has_own w o (filter_member (other_own x) o v.own mo (not_slot x o.node.slot n)))
+      (λ s ms _. absurd (unshared s ms)) y p ne in
+      step_to nodes words views h id v at w ws h.counter h.head (h.list ++ later g ∷ []) h.parent (let a = h.long in let b = length-set words i n in omega (arith, a, b))
+      (new_part claims_of (claiming.Claimed nodes h.counter h.head (h.list ++ later g ∷ []) ws) views id w
+      (turns.gives_at nodes h.counter h.head h.list words (map claims_of views) h.claims id v.claims (at_map claims_of views id v at) live empty none g has next))
+      (new_part rights_of (Divided ways) views id w (changes ways (map rights_of views) id (rights_of v) h.rights (at_map rights_of views id v at) live w.own
+      (λ o mo. inl (o, (member_filter (other_own x) o v.own mo).0, refl))
+      (λ o k mo mk is. (h.rights.own id (rights_of v) (at_map rights_of views id v at)).single o k (member_filter (other_own x) o v.own mo).0 (member_filter (other_own x) k v.own mk).0 is)))
+      (new_part tree_of (Tree nodes h.parent ws) views id w
+      (tree_gives x (places v) (places w) id cases stays nodes h.parent ws (map tree_of views) (tree_else nodes h.parent words (map tree_of views) i n (λ y q. omega (arith, q, short)) h.tree) v.own v.dropped v.claims.held at_tree
+      (ap h.parent (sym go.slot) ∙ (h.tree.parents id (tree_of v) (own_place v.claims.branch go.own) at_tree (place_own v go.own go.has) ∙ go.root))
+      (omega (arith, mine, once)) held
+      (each_place v (λ e. e.parent ≡ Some x → 0 < times e.node.slot v.dropped) go.childless (λ s ms. absurd (unshared s ms)))
+      (λ j k e ne d me. let u = at_mapped tree_of views j k d in alone_in j u.0 e ne u.1 (subst (λ (z : Grown). Member e z.places) (sym u.2) me))))
+      (new_part marks_of (Climbing nodes ws) views id w
+      (subst (λ c. Climbing nodes ws (set (map marks_of views) id (record { places = places w; dropped = w.dropped; marked = v.marked; busy = v.busy; climb = c }))) (sym go.climb)
+      (climbs_gives x (places v) (places w) id cases stays nodes ws (map marks_of views) (climbs_else nodes words (map marks_of views) i n (λ y q. omega (arith, q, short)) h.climbs) v.dropped v.marked v.busy
+      (at_marks ∙ ap (λ c. some (record { places = places v; dropped = v.dropped; marked = v.marked; busy = v.busy; climb = c })) go.climb) go.unmarked go.idle)))
+      (new_part states_of (AreStated nodes h.counter (h.list ++ later g ∷ []) ws) views id w
+      (states_gives nodes h.counter h.list ws (map states_of views) (states_else nodes h.counter h.list words (map states_of views) i n (λ y q. omega (arith, q, short)) h.states) id (states_of v) (at_map states_of views id v at)
+      (later g) go.state go.known (ap (λ (z : Handle). z.slot) go.of) go.word))
+      (h.met id v at)
 
 pub gives : (nodes slots id i n : ℕ) (v : MarksView) (hs : List (ℕ × Unit {0})) (g : Handle) → v.claims.counter ≡ Some 0 → Member g v.claims.held → g.generation < 4294967295 → MayGo v g
     → i ≡ claiming.place v.claims.count (v.claims.head + length v.claims.list) → n ≡ word_of (later g)

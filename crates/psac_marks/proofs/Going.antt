@@ -1,16 +1,13 @@
 -- What the four stores of a node's going make of a view.
 use Rattle.std.proofs.Common.{◌≡◌, ◌≢◌, ℕ, suc, ◌+◌, ◌*◌, ◌/◌, ◌%◌, ◌<◌, ◌≤◌, List, [], ◌∷◌, map, Bool, true, false, cond, refl, sym, ap, ◌∙◌, subst, ⊎_elim, arith, Option, Some, None, length-append}
-use Rattle.psac_marks.proofs.Terms.{filter, not, ◌==◌, eq-eqb, ne_eqb, cases_eq, cases_lt, Handle, Member, later, removed, slot_times, times, Accounted, accounted_returned, member_map, map_member, member_filter, member_times, found, OwnView, SharedView, StateView, MarksView, Place, own_place, shared_place, handle_of, free_word, state_at, other_own, other_state, hang, hung, put, stated, cleared, gave, released, Tells, Carries, Owns, Bare, Childless, filtered}
+use Rattle.psac_marks.proofs.Terms.{none_some, filter, not, ◌==◌, eq-eqb, ne_eqb, cases_eq, cases_lt, Handle, Member, later, removed, slot_times, times, Accounted, accounted_returned, member_map, map_member, member_filter, member_times, found, OwnView, StateView, MarksView, own_place, shared_place, handle_of, free_word, state_at, other_own, other_state, hang, hung, put, stated, cleared, gave, released, Tells, Carries, Owns, Bare, Childless, filtered}
 use Rattle.psac_slots.proofs.Carrying as ring
-use Rattle.psac_marks.proofs.Parts.{times_gone, place_own, place_shared, place_cases}
+use Rattle.psac_marks.proofs.Parts.{each_place, times_gone, place_own, place_shared}
 use Rattle.psac_marks.proofs.Giving.{MayGo}
 
 -- the node isn't marked, is a root, and its state says that it is free
 abbrev pub leaving : Handle → MarksView → MarksView
 leaving g v = stated g.slot (free_word (later g)) (hung g.slot None (cleared g.slot v))
-
-none_some : (x : ℕ) → ◌≡◌ {A = Option ℕ} None (Some x) → ⊥
-none_some x e = absurd (cc)
 
 pub bare : (v : MarksView) (x : ℕ) → Childless v x → Bare v x
 bare v x f o m is kept = let a = f o m is in absurd (omega (arith, a, kept))
@@ -85,10 +82,8 @@ module _ (nodes head room words : ℕ) (v : MarksView) (p : Carries nodes head r
     climb = p.climb;
     out = λ t mt. p.out t (member_filter (other_state g.slot) t v.states mt).0;
     held_is = filtered handle_of g.slot v.states ∙ ap (removed g.slot) p.held_is;
-    low = λ e me. ⊎_elim
-        (λ (q : (o : OwnView) × Member o (released g v).own × (own_place v.claims.branch o ≡ e)). subst (λ (z : Place). z.node.slot < nodes) q.2 (p.low (own_place v.claims.branch q.0) (place_own v q.0 (member_filter (other_own g.slot) q.0 v.own q.1).0)))
-        (λ (q : (s : SharedView) × Member s v.shared × (shared_place s ≡ e)). subst (λ (z : Place). z.node.slot < nodes) q.2 (p.low (shared_place q.0) (place_shared v q.0 q.1)))
-        (place_cases (released g v) e me);
+    low = each_place (released g v) (λ e. e.node.slot < nodes)
+        (λ o mo. p.low (own_place v.claims.branch o) (place_own v o (member_filter (other_own g.slot) o v.own mo).0)) (λ s ms. p.low (shared_place s) (place_shared v s ms));
   }
 
 -- what the state of a slot tells a sole pass

@@ -3,7 +3,7 @@ use Rattle.std.proofs.Common.{◌≡◌, ℕ, ◌+◌, ◌-◌, ◌<◌, ◌++�
 use Rattle.psac_marks.proofs.Terms.{filter, map-append, Member, stays, goes, lends, member_cases, member_filter, member_map, rest_is, OwnView, SharedView, StateView, MarksView, Place, own_place, shared_place, places, handle_of, ways, left_of, right_of, now_shared, joined, regained, rewound, Holds, Carries}
 use Rattle.psac_slots.specs.Claiming as claiming
 use Rattle.psac_marks.proofs.Carrying.{renewed}
-use Rattle.psac_marks.proofs.Parts.{place_own, place_shared, place_cases}
+use Rattle.psac_marks.proofs.Parts.{each_place, place_own, place_shared}
 
 module _ (nodes head room words : ℕ) (v : MarksView) (c : Carries nodes head room words v) where
   pub carries_regained : (n : ℕ) → Carries nodes head room words (regained n v)
@@ -39,10 +39,7 @@ module _ (nodes head room words : ℕ) (v : MarksView) (c : Carries nodes head r
         (member_cases s v.shared (map (ways.lend v.claims.branch) (filter (lends ways shared to_right) v.own)) m)
 
     side_low : (u : MarksView) → u.shared ≡ now_shared shared to_right v → ((o : OwnView) → Member o u.own → Member o v.own) → (e : Place) → Member e (places u) → e.node.slot < nodes
-    side_low u told mine e m = ⊎_elim
-        (λ (p : (o : OwnView) × Member o u.own × (own_place u.claims.branch o ≡ e)). subst (λ (z : Place). z.node.slot < nodes) p.2 (own_low p.0 (mine p.0 p.1)))
-        (λ (p : (s : SharedView) × Member s u.shared × (shared_place s ≡ e)). subst (λ (z : Place). z.node.slot < nodes) p.2 (told_low p.0 (subst (Member p.0) told p.1)))
-        (place_cases u e m)
+    side_low u told mine = each_place u (λ e. e.node.slot < nodes) (λ o m. own_low o (mine o m)) (λ s m. told_low s (subst (Member s) told m))
 
     pub carries_left : Carries nodes head room words (left_of shared to_right v)
     carries_left = renewed nodes head room words v c (left_of shared to_right v) refl refl refl refl c.climb c.held_is c.out (side_low (left_of shared to_right v) refl (λ o m. (member_filter (stays ways shared to_right) o v.own m).0))

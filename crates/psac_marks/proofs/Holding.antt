@@ -1,8 +1,7 @@
 -- What the rule says of one view, and of a pass that is the only one.
-use Rattle.std.proofs.Common.{◌≡◌, ◌≢◌, ℕ, List, [], map, true, false, true≢false, sym, ap, ◌∙◌, subst, ⊎_elim, arith, Some}
-use Rattle.psac_marks.proofs.Terms.{cases_eq, some, some-injective, get_elem?, at_map, Handle, ClaimView, is_prefix, Member, slot_times, IsDistinct, sole_parts, same_slot, member_times, at_most_once, sum_at, OwnView, SharedView, MarksView, Place, own_place, shared_place, places, claims_of, rights_of, Grown, tree_of, marks_of, Has, HasOwn, Marked, Holds}
-use Rattle.psac_marks.proofs.Parts.{place_own, place_cases}
-use Rattle.psac_marks.proofs.Keeps.{at_mapped}
+use Rattle.std.proofs.Common.{◌≡◌, ◌≢◌, ℕ, List, [], map, true, false, true≢false, refl, sym, ap, ◌∙◌, subst, ⊎_elim, arith, Some}
+use Rattle.psac_marks.proofs.Terms.{at_mapped, cases_eq, some, some-injective, get_elem?, at_map, Handle, ClaimView, is_prefix, Member, slot_times, IsDistinct, sole_parts, same_slot, member_times, at_most_once, sum_at, OwnView, MarksView, Place, own_place, places, claims_of, rights_of, Grown, tree_of, marks_of, Has, HasOwn, Marked, Holds}
+use Rattle.psac_marks.proofs.Parts.{each_place, each_has, place_own}
 use Rattle.psac_marks.proofs.Alone.{dead, nothing_shared, holds_own}
 
 module _ (nodes : ℕ) (words : List ℕ) (views : List MarksView) (h : Marked nodes words views) where
@@ -10,10 +9,7 @@ module _ (nodes : ℕ) (words : List ℕ) (views : List MarksView) (h : Marked n
   pub has_live : (j : ℕ) (u : MarksView) (e : Place) → get_elem? views j ≡ some u → Member e (places u) → u.claims.live ≡ true
   has_live j u e at m =
       let o = h.rights.own j (rights_of u) (at_map rights_of views j u at) in
-      ⊎_elim
-      (λ (p : (w : OwnView) × Member w u.own × (own_place u.claims.branch w ≡ e)). o.rises p.0 p.1)
-      (λ (p : (s : SharedView) × Member s u.shared × (shared_place s ≡ e)). o.awake p.0 p.1)
-      (place_cases u e m)
+      each_place u (λ _. u.claims.live ≡ true) o.rises o.awake e m
 
   -- the branches of two live passes are apart
   pub branches_apart : (i j : ℕ) (v u : MarksView) → get_elem? views i ≡ some v → get_elem? views j ≡ some u → i ≢ j → v.claims.live ≡ true → u.claims.live ≡ true → is_prefix v.claims.branch u.claims.branch ≡ false
@@ -37,10 +33,7 @@ module _ (nodes : ℕ) (words : List ℕ) (views : List MarksView) (h : Marked n
       owns_all j u x e has = ⊎_elim
           (λ (same : j ≡ id).
           let is : u ≡ v = some-injective u v (sym e ∙ (ap (get_elem? views) same ∙ at)) in
-          ⊎_elim
-          (λ (p : (w : OwnView) × Member w v.own × (own_place v.claims.branch w ≡ has.0)). (p.0, p.1, ap (λ (z : Place). z.node.slot) p.2 ∙ has.2))
-          (λ (p : (s : SharedView) × Member s v.shared × (shared_place s ≡ has.0)). absurd (subst (Member p.0) (nothing_shared nodes words views h id v at live empty) p.1))
-          (place_cases v has.0 (subst (λ (z : MarksView). Member has.0 (places z)) is has.1)))
+          each_has v (HasOwn v.own) (λ o m. (o, m, refl)) (λ s m. absurd (subst (Member s) (nothing_shared nodes words views h id v at live empty) m)) x (subst (λ (z : MarksView). Has (places z) x) is has))
           (λ n. absurd (true≢false (sym (has_live j u has.0 e has.1) ∙ dead nodes words views h id v at live empty j u n e)))
           (cases_eq j id)
 

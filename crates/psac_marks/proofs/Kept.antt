@@ -1,9 +1,9 @@
 -- What the rule of marks gives.
-use Rattle.std.proofs.Common.{◌≡◌, ◌≢◌, ◌⊎◌, ℕ, ◌<◌, List, [], ◌∷◌, map, set, true, true≢false, refl, sym, ap, ◌∙◌, subst, inl, inr, ⊎_elim, arith, Option, Some, None}
-use Rattle.psac_marks.proofs.Terms.{cases_eq, cases_lt, sum_by-cons, some, some-injective, get_elem?, at_map, Member, Own, Beside, times, sum_set, sum_none, all_set, OwnView, SharedView, MarksView, parent_word, Place, own_place, shared_place, places, claims_of, rights_of, tree_of, Raising, marks_of, marks, HasOwn, Marked, spent, holders, Promised}
+use Rattle.std.proofs.Common.{◌≡◌, ◌≢◌, ◌⊎◌, ℕ, ◌<◌, List, [], ◌∷◌, map, set, true, true≢false, refl, sym, ap, ◌∙◌, subst, inl, inr, ⊎_elim, arith, Some, None}
+use Rattle.psac_marks.proofs.Terms.{at_mapped, none_some, cases_eq, cases_lt, sum_by-cons, some, some-injective, get_elem?, at_map, Member, Own, Beside, times, sum_set, sum_none, all_set, OwnView, MarksView, parent_word, Place, places, claims_of, rights_of, tree_of, Raising, marks_of, marks, HasOwn, Marked, spent, holders, Promised}
 use Rattle.psac_slots.proofs.Kept as slots
-use Rattle.psac_marks.proofs.Parts.{place_cases}
-use Rattle.psac_marks.proofs.Keeps.{at_mapped, place_low, held_is, lacks}
+use Rattle.psac_marks.proofs.Parts.{each_has}
+use Rattle.psac_marks.proofs.Keeps.{place_low, held_is, lacks}
 use Rattle.psac_marks.proofs.Alone.{dead}
 use Rattle.psac_marks.proofs.Families.{child_own}
 use Rattle.psac_marks.proofs.Holding.{has_live, out_placed}
@@ -29,10 +29,7 @@ module _ (nodes : ℕ) (words : List ℕ) (views : List MarksView) (h : Marked n
       (λ (p : 0 < times o.node.slot u.marked).
       let has = h.climbs.marked j (marks_of u) o.node.slot (at_map marks_of views j u d) p in
       let b = beside_at i j v u e d (λ q. n (sym q)) in
-      ⊎_elim
-      (λ (w : (w : OwnView) × Member w u.own × (own_place u.claims.branch w ≡ has.0)). absurd (b.alone o w.0 m w.1 (sym (ap (λ (z : Place). z.node.slot) w.2 ∙ has.2))))
-      (λ (s : (s : SharedView) × Member s u.shared × (shared_place s ≡ has.0)). absurd (b.apart o m s.0 s.1 (ap (λ (z : Place). z.node.slot) s.2 ∙ has.2)))
-      (place_cases u has.0 has.1))
+      absurd (each_has u (λ x. x ≡ o.node.slot → ⊥) (λ w mw q. b.alone o w m mw (sym q)) (λ s ms q. b.apart o m s ms q) o.node.slot has refl))
       (λ z. omega (arith, z))
       (cases_lt 0 (times o.node.slot u.marked))
 
@@ -72,9 +69,6 @@ module _ (nodes : ℕ) (words : List ℕ) (views : List MarksView) (h : Marked n
       (cases_eq i z.0)))
       y)
       (closed i v e at m kept (let b = mine e.node.slot in omega (arith, b, p)))
-    where
-      none_some : (a : ℕ) → ◌≡◌ {A = Option ℕ} None (Some a) → ⊥
-      none_some a e = absurd (cc)
 
   pub promised : Promised nodes words views
   promised = record {

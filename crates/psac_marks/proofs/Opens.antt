@@ -1,18 +1,11 @@
 -- The words at the start meet the rule of marks.
-use Rattle.std.proofs.Common.{◌≡◌, ◌≢◌, ℕ, zero, suc, ◌+◌, ◌*◌, ◌<◌, ◌≤◌, List, [], ◌∷◌, ◌++◌, map, length, refl, sym, ap, ◌∙◌, subst, ⊎_elim, arith, None, length-append}
-use Rattle.psac_marks.proofs.Terms.{IfSome, length-map, cases_lt, at_longer, some, some-ne-none, get_elem?, Handle, Member, word_of, fresh, Own, Rights, length-fresh, at_new, OwnView, SharedView, MarksView, Place, Grown, Raising, Stating, rights_of, tree_of, marks_of, states_of, ways, Meeting, Marked, first_view, blank, first_words, Carries}
+use Rattle.std.proofs.Common.{◌≡◌, ℕ, zero, suc, ◌+◌, ◌*◌, ◌<◌, ◌≤◌, [], ◌∷◌, ◌++◌, map, length, refl, sym, ap, ◌∙◌, subst, ⊎_elim, arith, None, length-append}
+use Rattle.psac_marks.proofs.Terms.{at_past, ring_length, fresh_at, none_some, IfSome, cases_lt, at_longer, some, get_elem?, Member, word_of, fresh, Own, Rights, length-fresh, OwnView, SharedView, MarksView, Place, Grown, Raising, Stating, rights_of, tree_of, marks_of, states_of, ways, Meeting, Marked, first_view, blank, first_words, Carries}
 use Rattle.psac_slots.proofs.Opens as slots
 
 pub length-blank : (n : ℕ) → length (blank n) ≡ 3 * n
 length-blank zero = refl
 length-blank (suc n) = let a = length-append (blank n) (0 ∷ 0 ∷ 2 ∷ []) in let b = length-blank n in omega (arith, a, b)
-
-at_past : {A : Type 0} (l m : List A) (k : ℕ) → get_elem? (l ++ m) (length l + k) ≡ get_elem? m k
-at_past {A} [] m k = ap (λ i. get_elem? {A = A} m i) (omega arith)
-at_past {A} (x ∷ l) m k = ap (λ i. get_elem? {A = A} (x ∷ (l ++ m)) i) (one_up (length l) k) ∙ at_past l m k
-  where
-    one_up : (n k : ℕ) → suc n + k ≡ suc (n + k)
-    one_up n k = omega arith
 
 -- the three words of a free node
 blank_at : (n x j w : ℕ) → x < n → get_elem? (0 ∷ 0 ∷ 2 ∷ []) j ≡ some w → get_elem? (blank n) (3 * x + j) ≡ some w
@@ -22,25 +15,15 @@ blank_at (suc n) x j w l e = ⊎_elim
     (λ (g : n ≤ x). let is : 3 * x + j ≡ length (blank n) + j = let a = length-blank n in omega (arith, a, l, g) in ap (get_elem? (blank n ++ (0 ∷ 0 ∷ 2 ∷ []))) is ∙ (at_past (blank n) (0 ∷ 0 ∷ 2 ∷ []) j ∙ e))
     (cases_lt x n)
 
-fresh_at : (n k : ℕ) (x : Handle) → get_elem? (fresh n) k ≡ some x → (x.slot < n) × (x.generation ≡ 1)
-fresh_at zero k x e = absurd (some-ne-none x (sym e))
-fresh_at (suc n) k x e = ⊎_elim
-    (λ (p : (k < length (fresh n)) × (get_elem? (fresh n) k ≡ some x)). let q = fresh_at n k x p.1 in let l = q.0 in (omega (arith, l), q.1))
-    (λ (p : (k ≡ length (fresh n)) × (record { slot = n; generation = 1 } ≡ x)). (let s = ap (λ (h : Handle). h.slot) p.1 in omega (arith, s), sym (ap (λ (h : Handle). h.generation) p.1)))
-    (at_new (fresh n) (record { slot = n; generation = 1 }) x k e)
-
 module _ (nodes : ℕ) (fits : nodes < 4294967296) where
-  ring_length : length (map word_of (fresh nodes)) ≡ nodes
-  ring_length = let a = length-map (fresh nodes) word_of in let b = length-fresh nodes in omega (arith, a, b)
-
   word_at : (i x j w : ℕ) → x < nodes → i ≡ nodes + (3 * x + j) → get_elem? (0 ∷ 0 ∷ 2 ∷ []) j ≡ some w → get_elem? (first_words nodes nodes) (suc i) ≡ some w
   word_at i x j w l is e =
-      let spot : i ≡ length (map word_of (fresh nodes)) + (3 * x + j) = let a = ring_length in omega (arith, a, is) in
+      let spot : i ≡ length (map word_of (fresh nodes)) + (3 * x + j) = let a = ring_length nodes in omega (arith, a, is) in
       ap (get_elem? (map word_of (fresh nodes) ++ blank nodes)) spot ∙ (at_past (map word_of (fresh nodes)) (blank nodes) (3 * x + j) ∙ blank_at nodes x j w l e)
 
   pub length_first : length (first_words nodes nodes) ≡ suc (nodes + 3 * nodes)
   length_first =
-      omega (arith, length-append (map word_of (fresh nodes)) (blank nodes), ring_length, length-blank nodes)
+      omega (arith, length-append (map word_of (fresh nodes)) (blank nodes), ring_length nodes, length-blank nodes)
 
   pub opens : Marked nodes (first_words nodes nodes) (first_view nodes ∷ [])
   opens =
@@ -89,9 +72,6 @@ module _ (nodes : ℕ) (fits : nodes < 4294967296) where
     where
       gone : (x : ℕ) → 0 < 0 → ⊥
       gone x p = omega (arith, p)
-
-      none_some : (x : ℕ) → ◌≡◌ {A = Rattle.std.proofs.Common.Option ℕ} None (Rattle.std.proofs.Common.Some x) → ⊥
-      none_some x e = absurd (cc)
 
   pub first_carries : (size : ℕ) → suc (nodes + 3 * nodes) ≡ size → Carries nodes 0 nodes size (first_view nodes)
   first_carries size e = record {

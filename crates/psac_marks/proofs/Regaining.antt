@@ -4,7 +4,7 @@ use Rattle.psac_marks.proofs.Terms.{slice_index, set-get_or, some, none as vacan
 use Rattle.psac_slots.specs.Claiming as claiming
 use Rattle.psac_slots.proofs.Rewinds as turns
 use Rattle.psac_marks.proofs.Parts.{same_part, new_part}
-use Rattle.psac_marks.proofs.Keeps.{met_after}
+use Rattle.psac_marks.proofs.Keeps.{step_to}
 use Rattle.psac_marks.proofs.Trees.{tree_else}
 use Rattle.psac_marks.proofs.Climbs.{climbs_else}
 use Rattle.psac_marks.proofs.Stays.{states_else}
@@ -22,19 +22,13 @@ module _ (nodes : ℕ) (words : List ℕ) (views : List MarksView) (h : Marked n
   pub regains_at : Marked nodes words (set views id (regained h.counter v))
   regains_at =
       let w = regained h.counter v in
-      record {
-        counter = h.counter;
-        head = h.head;
-        list = h.list;
-        parent = h.parent;
-        long = h.long;
-        claims = new_part claims_of (claiming.Claimed nodes h.counter h.head h.list words) views id w (turns.learns_at nodes h.counter h.head h.list words (map claims_of views) h.claims id v.claims (at_map claims_of views id v at) live empty);
-        rights = same_part rights_of (Divided ways) views id v w at refl h.rights;
-        tree = same_part tree_of (Tree nodes h.parent words) views id v w at refl h.tree;
-        climbs = same_part marks_of (Climbing nodes words) views id v w at refl h.climbs;
-        states = same_part states_of (AreStated nodes h.counter h.list words) views id v w at refl h.states;
-        met = met_after nodes words views h id v at w (h.met id v at);
-      }
+      step_to nodes words views h id v at w words h.counter h.head h.list h.parent h.long
+      (new_part claims_of (claiming.Claimed nodes h.counter h.head h.list words) views id w (turns.learns_at nodes h.counter h.head h.list words (map claims_of views) h.claims id v.claims (at_map claims_of views id v at) live empty))
+      (same_part rights_of (Divided ways) views id v w at refl h.rights)
+      (same_part tree_of (Tree nodes h.parent words) views id v w at refl h.tree)
+      (same_part marks_of (Climbing nodes words) views id v w at refl h.climbs)
+      (same_part states_of (AreStated nodes h.counter h.list words) views id v w at refl h.states)
+      (h.met id v at)
 
   pub rewinds_at : v.claims.counter ≡ Some h.counter → Marked nodes (set words 0 0) (set views id (rewound v))
   rewinds_at knows =
@@ -42,20 +36,14 @@ module _ (nodes : ℕ) (words : List ℕ) (views : List MarksView) (h : Marked n
       let front = claiming.turned nodes (h.head + length (take h.counter h.list)) in
       let list = drop h.counter h.list in
       let ws = set words 0 0 in
-      record {
-        counter = 0;
-        head = front;
-        list = list;
-        parent = h.parent;
-        long = (let a = h.long in let b = length-set words 0 0 in omega (arith, a, b));
-        claims = new_part claims_of (claiming.Claimed nodes 0 front list ws) views id w (turns.rewinds_at nodes h.counter h.head h.list words (map claims_of views) h.claims id v.claims (at_map claims_of views id v at) live empty knows);
-        rights = same_part rights_of (Divided ways) views id v w at refl h.rights;
-        tree = same_part tree_of (Tree nodes h.parent ws) views id v w at refl (tree_else nodes h.parent words (map tree_of views) 0 0 (λ y q. omega (arith, q)) h.tree);
-        climbs = same_part marks_of (Climbing nodes ws) views id v w at refl (climbs_else nodes words (map marks_of views) 0 0 (λ y q. omega (arith, q)) h.climbs);
-        states = same_part states_of (AreStated nodes 0 list ws) views id v w at refl
-            (states_else nodes 0 list words (map states_of views) 0 0 (λ y q. omega (arith, q)) (states_rewound nodes h.counter h.list words (map states_of views) h.states));
-        met = met_after nodes words views h id v at w (h.met id v at);
-      }
+      step_to nodes words views h id v at w ws 0 front list h.parent (let a = h.long in let b = length-set words 0 0 in omega (arith, a, b))
+      (new_part claims_of (claiming.Claimed nodes 0 front list ws) views id w (turns.rewinds_at nodes h.counter h.head h.list words (map claims_of views) h.claims id v.claims (at_map claims_of views id v at) live empty knows))
+      (same_part rights_of (Divided ways) views id v w at refl h.rights)
+      (same_part tree_of (Tree nodes h.parent ws) views id v w at refl (tree_else nodes h.parent words (map tree_of views) 0 0 (λ y q. omega (arith, q)) h.tree))
+      (same_part marks_of (Climbing nodes ws) views id v w at refl (climbs_else nodes words (map marks_of views) 0 0 (λ y q. omega (arith, q)) h.climbs))
+      (same_part states_of (AreStated nodes 0 list ws) views id v w at refl
+      (states_else nodes 0 list words (map states_of views) 0 0 (λ y q. omega (arith, q)) (states_rewound nodes h.counter h.list words (map states_of views) h.states)))
+      (h.met id v at)
 
 module _ (nodes slots id : ℕ) (v : MarksView) (hs : List (ℕ × Unit {0})) where
   pub regains : v.claims.live ≡ true → v.claims.branch ≡ [] → Allows (λ (s : State (Unit {0}) MarksView). Marked nodes s.words s.views) slots id (v, hs) 0 (λ n. n) (Regained (step slots 0 0 0 vacant) (v, hs))

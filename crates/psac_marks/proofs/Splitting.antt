@@ -1,12 +1,13 @@
 -- Splits keep the rule.
 use Rattle.std.proofs.Common.{◌≡◌, ◌≢◌, ◌⊎◌, ℕ, ◌+◌, ◌<◌, ◌≤◌, List, [], ◌∷◌, ◌++◌, map, length, set, Bool, true, false, true≢false, ltb, refl, sym, ap, ◌∙◌, subst, inl, inr, ⊎_elim, arith, Option, Some, None}
-use Rattle.psac_marks.proofs.Terms.{filter, not, ◌&&◌, IfSome, sum_by_push, map-append, map-set, cases_eq, cases_Bool, cases_lt, lt-ltb, ltb-true, and_parts, some, some-injective, get_elem?, at_map, at_set, at_snoc, at_longer, at_last, set_else, Handle, is_prefix, Member, slot_times, times, Rights, Divided, stays, goes, lends, sum_set, all_set, all_end, prefix_refl, prefix_long, member_left, member_right, filter_member, map_member, one_after, is_off, divides, told_cases, on_left, on_right, prefix_short_length, OwnView, SharedView, StateView, MarksView, Place, own_place, shared_place, places, claims_of, handle_of, ways, rights_of, Grown, tree_of, Raising, marks_of, Stating, states_of, Has, HasOwn, Out, held_times, Tree, marks, Supported, Climbing, IsStated, AreStated, Meeting, Marked, goes_over, stays_here, now_shared, left_of, right_of, Parted}
+use Rattle.psac_marks.proofs.Terms.{at_mapped, none_some, filter, not, ◌&&◌, IfSome, sum_by_push, map-append, map-set, cases_eq, cases_Bool, cases_lt, lt-ltb, ltb-true, and_parts, some, some-injective, get_elem?, at_map, at_set, at_snoc, at_longer, at_last, set_else, Handle, is_prefix, Member, slot_times, times, Rights, Divided, stays, goes, lends, sum_set, all_set, all_end, prefix_refl, prefix_long, member_left, member_right, filter_member, map_member, one_after, is_off, divides, told_cases, on_left, on_right, prefix_short_length, OwnView, SharedView, StateView, MarksView, Place, own_place, shared_place, places, claims_of, handle_of, ways, rights_of, Grown, tree_of, Raising, marks_of, Stating, states_of, Has, HasOwn, Out, held_times, Tree, marks, Supported, Climbing, IsStated, AreStated, Meeting, Marked, goes_over, stays_here, now_shared, left_of, right_of, Parted}
 use Rattle.psac_slots.specs.Claiming as claiming
 use Rattle.psac_slots.proofs.Keeps as laws
-use Rattle.psac_marks.proofs.Parts.{here, place_own, place_shared, place_cases}
+use Rattle.psac_marks.proofs.Parts.{each_place, each_has, has_own, has_shared, here, place_own, place_shared}
 use Rattle.psac_marks.proofs.Counted.{times_both, times_member, times_found, times_in, times_out}
-use Rattle.psac_marks.proofs.Keeps.{at_mapped, drops_own, shared_kept}
+use Rattle.psac_marks.proofs.Keeps.{drops_own, shared_kept}
 use Rattle.psac_marks.proofs.Families.{below_own}
+use Rattle.psac_marks.proofs.Climbs.{support_moves}
 use Rattle.psac_marks.proofs.Holding.{branches_apart}
 
 -- an index of a list of which an entry changed, and that has one more
@@ -145,9 +146,6 @@ module _ (nodes : ℕ) (words : List ℕ) (all : List Raising) (h : Climbing nod
   abbrev pub right_marks : Raising
   right_marks = record { places = rp; dropped = rd; marked = rm; busy = rb; climb = None }
 
-  none_some : (x : ℕ) → ◌≡◌ {A = Option ℕ} None (Some x) → ⊥
-  none_some x e = absurd (cc)
-
   -- a place is one that was, with its node and parent
   abbrev pub Was : List ℕ → Place → Type 0
   Was ds e = (d : Place) × Member d gs × (e.node ≡ d.node) × (e.parent ≡ d.parent) × (Kept ds e → Kept gd d)
@@ -167,16 +165,10 @@ module _ (nodes : ℕ) (words : List ℕ) (all : List Raising) (h : Climbing nod
       let a = sum_set (λ (k : Raising). times x k.marked) all id whole_marks l at in let c = sum_by_push (λ (k : Raising). times x k.marked) mid r in let t = total x in omega (arith, a, c, t) in
       let each : (F : Raising → Type 0) → F l → F r → ((j : ℕ) (u : Raising) → get_elem? all j ≡ some u → F u) → (j : ℕ) (u : Raising) → get_elem? after j ≡ some u → F u = λ F fl fr old.
       all_end (λ _ u. F u) mid r (all_set (λ _ u. F u) all id l fl (λ i k n d. old i k d)) (λ _. fr) in
-      let support : (e : Place) → Supported all e → Supported after e = λ e s. ⊎_elim
-      (λ x. inl x)
-      (λ y. ⊎_elim
-      (λ (p : (p : ℕ) × (e.parent ≡ Some p) × (0 < marks p all)). let a = same p.0 in let c = p.2 in inr (inl (p.0, p.1, omega (arith, a, c))))
-      (λ (c : (j : ℕ) × (k : Raising) × (get_elem? all j ≡ some k) × (k.climb ≡ Some e.node.slot)). ⊎_elim
-      (λ (q : c.0 ≡ id). absurd (none_some e.node.slot (ap (λ (k : Raising). k.climb) (some-injective whole_marks c.1 (sym at ∙ (ap (get_elem? all) (sym q) ∙ c.2))) ∙ c.3)))
-      (λ n. inr (inr (c.0, c.1, split_other all id whole_marks l r at c.0 c.1 n c.2, c.3)))
-      (cases_eq c.0 id))
-      y)
-      s in
+      let support : (e : Place) → Supported all e → Supported after e = λ e. support_moves all after e (λ z p. let a = same z in omega (arith, a, p)) (λ j k d c. ⊎_elim
+      (λ (q : j ≡ id). absurd (none_some e.node.slot (ap (λ (k : Raising). k.climb) (some-injective whole_marks k (sym at ∙ (ap (get_elem? all) (sym q) ∙ d))) ∙ c)))
+      (λ n. inr (inr (j, k, split_other all id whole_marks l r at j k n d, c)))
+      (cases_eq j id)) in
       let side : (ps : List Place) (ds : List ℕ) → ((e : Place) → Member e ps → Was ds e) → (c : Place) → Member c ps → times c.node.slot ds ≡ 0 → 0 < marks c.node.slot after → Supported after c = λ ps ds was c mc kc pc.
       let s = was c mc in
       let slot = ap (λ (x : Handle). x.slot) s.2 in
@@ -303,21 +295,15 @@ module _ (shared to_right : ℕ → Bool) (nodes : ℕ) (words : List ℕ) (view
 
   -- what becomes of a place: both sides have it, or one
   both_have : (x : ℕ) → Has (places v) x → ((Has (places l) x × Has (places r) x) ⊎ ((Has (places l) x × (stays_here shared to_right v x ≡ true)) ⊎ (Has (places r) x × (goes_over shared to_right v x ≡ true))))
-  both_have x has = ⊎_elim
-      (λ (p : (o : OwnView) × Member o v.own × (own_place b o ≡ has.0)).
-      let slot : p.0.node.slot ≡ x = ap (λ (z : Place). z.node.slot) p.2 ∙ has.2 in
-      ⊎_elim
-      (λ (s : shared p.0.node.slot ≡ true). let t = told_lent p.0 p.1 s in
-      inl ((shared_place (ways.lend b p.0), place_shared l (ways.lend b p.0) t, slot), (shared_place (ways.lend b p.0), place_shared r (ways.lend b p.0) t, slot)))
-      (λ (s : shared p.0.node.slot ≡ false). inr (⊎_elim
-      (λ (t : to_right p.0.node.slot ≡ true). inr ((own_place r.claims.branch p.0, place_own r p.0 (own_right shared to_right v p.0 p.1 s t), slot), ap (goes_over shared to_right v) (sym slot) ∙ over shared to_right v p.0 p.1 s t))
-      (λ (t : to_right p.0.node.slot ≡ false). inl ((own_place l.claims.branch p.0, place_own l p.0 (own_left shared to_right v p.0 p.1 s t), slot), ap (stays_here shared to_right v) (sym slot) ∙ stay shared to_right v p.0 p.1 s t))
-      (cases_Bool (to_right p.0.node.slot))))
-      (cases_Bool (shared p.0.node.slot)))
-      (λ (p : (s : SharedView) × Member s v.shared × (shared_place s ≡ has.0)).
-      let slot : p.0.node.slot ≡ x = ap (λ (z : Place). z.node.slot) p.2 ∙ has.2 in
-      inl ((shared_place p.0, place_shared l p.0 (told_old p.0 p.1), slot), (shared_place p.0, place_shared r p.0 (told_old p.0 p.1), slot)))
-      (place_cases v has.0 has.1)
+  both_have = each_has v (λ x. (Has (places l) x × Has (places r) x) ⊎ ((Has (places l) x × (stays_here shared to_right v x ≡ true)) ⊎ (Has (places r) x × (goes_over shared to_right v x ≡ true))))
+      (λ o m. ⊎_elim
+      (λ (s : shared o.node.slot ≡ true). let t = told_lent o m s in inl (has_shared l (ways.lend b o) t, has_shared r (ways.lend b o) t))
+      (λ (s : shared o.node.slot ≡ false). inr (⊎_elim
+      (λ (t : to_right o.node.slot ≡ true). inr (has_own r o (own_right shared to_right v o m s t), over shared to_right v o m s t))
+      (λ (t : to_right o.node.slot ≡ false). inl (has_own l o (own_left shared to_right v o m s t), stay shared to_right v o m s t))
+      (cases_Bool (to_right o.node.slot))))
+      (cases_Bool (shared o.node.slot)))
+      (λ s m. inl (has_shared l s (told_old s m), has_shared r s (told_old s m)))
 
   has_sides : (x : ℕ) → Has (places v) x → Has (places l) x ⊎ Has (places r) x
   has_sides x has = ⊎_elim (λ p. inl p.0) (λ y. ⊎_elim (λ p. inl p.0) (λ p. inr p.0) y) (both_have x has)
@@ -339,29 +325,19 @@ module _ (shared to_right : ℕ → Bool) (nodes : ℕ) (words : List ℕ) (view
       (told_cases ways shared to_right (rights_of v) s m)
 
   on_the_left : (e : Place) → Member e (places l) → From shared to_right b v.own v.dropped (places v) false e × (Kept l.dropped e → Kept v.dropped e)
-  on_the_left e m = ⊎_elim
-      (λ (p : (o : OwnView) × Member o l.own × (own_place l.claims.branch o ≡ e)).
-      let q = on_left ways shared to_right (rights_of v) p.0 p.1 in (
-        inr (inr (p.0, q.0, q.1, q.2, p.2)),
-        λ z. let slot = ap (λ (y : Place). y.node.slot) p.2 in
-            let off_here : goes_over shared to_right v e.node.slot ≡ false = ⊎_elim (λ (t : goes_over shared to_right v e.node.slot ≡ true). absurd (none_on _ _ (and_parts _ _ t).1 (ap to_right (sym slot) ∙ q.2))) (λ t. t) (cases_Bool (goes_over shared to_right v e.node.slot)) in
-            sym (times_in (λ y. not (goes_over shared to_right v y)) e.node.slot v.dropped (ap not off_here)) ∙ z,
+  on_the_left = each_place l (λ e. From shared to_right b v.own v.dropped (places v) false e × (Kept l.dropped e → Kept v.dropped e))
+      (λ o m. let q = on_left ways shared to_right (rights_of v) o m in (
+        inr (inr (o, q.0, q.1, q.2, refl)),
+        λ z. let off_here : goes_over shared to_right v o.node.slot ≡ false = ⊎_elim (λ (t : goes_over shared to_right v o.node.slot ≡ true). absurd (none_on _ _ (and_parts _ _ t).1 q.2)) (λ t. t) (cases_Bool (goes_over shared to_right v o.node.slot)) in
+            sym (times_in (λ y. not (goes_over shared to_right v y)) o.node.slot v.dropped (ap not off_here)) ∙ z,
       ))
-      (λ (p : (s : SharedView) × Member s l.shared × (shared_place s ≡ e)).
-      subst (λ (y : Place). From shared to_right b v.own v.dropped (places v) false y × (Kept l.dropped y → Kept v.dropped y)) p.2 (told_from false p.0 p.1, λ _. told_kept shared to_right v parted (shared_kept nodes words views h id v at) p.0 p.1))
-      (place_cases l e m)
+      (λ s m. (told_from false s m, λ _. told_kept shared to_right v parted (shared_kept nodes words views h id v at) s m))
 
   on_the_right : (e : Place) → Member e (places r) → From shared to_right b v.own v.dropped (places v) true e × (Kept r.dropped e → Kept v.dropped e)
-  on_the_right e m = ⊎_elim
-      (λ (p : (o : OwnView) × Member o r.own × (own_place r.claims.branch o ≡ e)).
-      let q = on_right ways shared to_right (rights_of v) p.0 p.1 in (
-        inr (inr (p.0, q.0, q.1, q.2, p.2)),
-        λ z. let slot = ap (λ (y : Place). y.node.slot) p.2 in
-            sym (times_in (goes_over shared to_right v) e.node.slot v.dropped (ap (goes_over shared to_right v) (sym slot) ∙ over shared to_right v p.0 q.0 q.1 q.2)) ∙ z,
-      ))
-      (λ (p : (s : SharedView) × Member s r.shared × (shared_place s ≡ e)).
-      subst (λ (y : Place). From shared to_right b v.own v.dropped (places v) true y × (Kept r.dropped y → Kept v.dropped y)) p.2 (told_from true p.0 p.1, λ _. told_kept shared to_right v parted (shared_kept nodes words views h id v at) p.0 p.1))
-      (place_cases r e m)
+  on_the_right = each_place r (λ e. From shared to_right b v.own v.dropped (places v) true e × (Kept r.dropped e → Kept v.dropped e))
+      (λ o m. let q = on_right ways shared to_right (rights_of v) o m in
+      (inr (inr (o, q.0, q.1, q.2, refl)), λ z. sym (times_in (goes_over shared to_right v) o.node.slot v.dropped (over shared to_right v o q.0 q.1 q.2)) ∙ z))
+      (λ s m. (told_from true s m, λ _. told_kept shared to_right v parted (shared_kept nodes words views h id v at) s m))
 
   -- and so each place is one that was
   was : (ds : List ℕ) (t : Bool) (e : Place) → From shared to_right b v.own v.dropped (places v) t e → (Kept ds e → Kept v.dropped e) → (d : Place) × Member d (places v) × (e.node ≡ d.node) × (e.parent ≡ d.parent) × (Kept ds e → Kept v.dropped d)

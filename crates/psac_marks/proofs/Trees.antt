@@ -1,21 +1,23 @@
 -- What steps make of the tree.
 use Rattle.std.proofs.Common.{◌≡◌, ◌≢◌, ◌⊎◌, ℕ, ◌+◌, ◌*◌, ◌<◌, ◌≤◌, List, [], ◌∷◌, ◌++◌, map, length, set, Bool, true, cond, refl, sym, ap, ◌∙◌, subst, inl, inr, ⊎_elim, arith, Option, Some, None}
-use Rattle.psac_marks.proofs.Terms.{◌==◌, sum_by-append, eq-eqb, ne_eqb, cases_eq, cases_lt, some, some-injective, get_elem?, at_set, set_here, set_else, Handle, is_prefix, Member, slot_times, times, bit, sum_set, sum_at, all_set, member_left, member_right, map_member, member_times, found, parent_at, parent_word, Place, Grown, Has, HasOwn, Out, held_times, Tree, new_own, hang}
+use Rattle.psac_marks.proofs.Terms.{none_some, ◌==◌, sum_by-append, eq-eqb, ne_eqb, cases_eq, cases_lt, some, some-injective, get_elem?, at_set, set_here, set_else, Handle, is_prefix, Member, slot_times, times, bit, sum_set, sum_at, all_set, member_left, member_right, map_member, member_times, found, parent_at, parent_word, Place, Grown, Has, HasOwn, Out, held_times, Tree, new_own, hang}
 use Rattle.psac_marks.proofs.Parts.{here, times_push}
-
-none_some : {A : Type 0} (a : A) → ◌≡◌ {A = Option A} None (Some a) → ⊥
-none_some a e = absurd (cc)
 
 -- what is out is held
 pub out_held : (all : List Grown) (x : Handle) → Out all x → 0 < held_times x.slot all
 out_held all x o = let a = member_times x o.1.held o.3 in let b = sum_at (λ (g : Grown). slot_times x.slot g.held) all o.0 o.1 o.2 in omega (arith, a, b)
 
--- what is out stays so, where a pass holds what it held
-pub out_grows : (all : List Grown) (id : ℕ) (g f : Grown) → get_elem? all id ≡ some g → ((x : Handle) → Member x g.held → Member x f.held) → (x : Handle) → Out all x → Out (set all id f) x
-out_grows all id g f at more x o = ⊎_elim
-    (λ (e : o.0 ≡ id). (id, f, here all id g f at, more x (subst (λ (k : Grown). Member x k.held) (some-injective o.1 g (sym o.2 ∙ (ap (get_elem? all) e ∙ at))) o.3)))
+-- what some pass has it has still, where the changed one has it
+pub some_stays : (P : Grown → Type 0) (all : List Grown) (id : ℕ) (g f : Grown) → get_elem? all id ≡ some g → (P g → P f)
+    → (j : ℕ) × (k : Grown) × (get_elem? all j ≡ some k) × P k → (j : ℕ) × (k : Grown) × (get_elem? (set all id f) j ≡ some k) × P k
+some_stays P all id g f at more o = ⊎_elim
+    (λ (e : o.0 ≡ id). (id, f, here all id g f at, more (subst P (some-injective o.1 g (sym o.2 ∙ (ap (get_elem? all) e ∙ at))) o.3)))
     (λ n. (o.0, o.1, set_else all id o.0 f n ∙ o.2, o.3))
     (cases_eq o.0 id)
+
+-- what is out stays so, where a pass holds what it held
+pub out_grows : (all : List Grown) (id : ℕ) (g f : Grown) → get_elem? all id ≡ some g → ((x : Handle) → Member x g.held → Member x f.held) → (x : Handle) → Out all x → Out (set all id f) x
+out_grows all id g f at more x = some_stays (λ k. Member x k.held) all id g f at (more x)
 
 -- some pass has the node
 abbrev pub HasSome : List Grown → ℕ → Type 0
@@ -23,10 +25,7 @@ HasSome all x = (j : ℕ) × (g : Grown) × (get_elem? all j ≡ some g) × Has 
 
 -- and some pass has it still, where one has the nodes that it had
 pub had_stays : (all : List Grown) (id : ℕ) (g f : Grown) → get_elem? all id ≡ some g → ((x : ℕ) → Has g.places x → Has f.places x) → (x : ℕ) → HasSome all x → HasSome (set all id f) x
-had_stays all id g f at more x o = ⊎_elim
-    (λ (e : o.0 ≡ id). (id, f, here all id g f at, more x (subst (λ (k : Grown). Has k.places x) (some-injective o.1 g (sym o.2 ∙ (ap (get_elem? all) e ∙ at))) o.3)))
-    (λ n. (o.0, o.1, set_else all id o.0 f n ∙ o.2, o.3))
-    (cases_eq o.0 id)
+had_stays all id g f at more x = some_stays (λ k. Has k.places x) all id g f at (more x)
 
 -- a store beside the parents
 pub tree_else : (nodes : ℕ) (parent : ℕ → Option ℕ) (words : List ℕ) (all : List Grown) (i x : ℕ) → ((y : ℕ) → parent_at nodes y ≢ i) → Tree nodes parent words all → Tree nodes parent (set words i x) all

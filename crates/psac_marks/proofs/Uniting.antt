@@ -1,11 +1,11 @@
 -- Joins keep the rule.
 use Rattle.std.proofs.Common.{◌≡◌, ◌≢◌, ◌⊎◌, ℕ, ◌<◌, ◌≤◌, List, [], ◌∷◌, ◌++◌, map, length, set, Bool, true, false, true≢false, cond, refl, sym, ap, ◌∙◌, subst, inl, inr, ⊎_elim, arith, Option, Some, None, length-append}
-use Rattle.psac_marks.proofs.Terms.{filter, not, ◌==◌, IfSome, sum_by-append, map-append, map-set, cases_eq, cases_Bool, cases_lt, some, some-injective, get_elem?, at_map, at_set, set_else, Handle, is_prefix, stem, Member, slot_times, times, Rights, Divided, above, comes_back, sum_set, all_set, prefix_refl, stem_push, member_left, member_right, member_cases, filter_member, map_member, Strangers, unites, alone_cases, is_above, shared_same, meets, prefix_cut, prefix_whole, prefix_short_length, prefix_through, OwnView, SharedView, StateView, MarksView, Place, own_place, shared_place, places, claims_of, handle_of, ways, rights_of, Grown, tree_of, Raising, marks_of, Stating, states_of, Has, HasOwn, Out, held_times, Tree, marks, Supported, Climbing, IsStated, AreStated, Meeting, Marked, Lacks, joined, met, spent, United}
+use Rattle.psac_marks.proofs.Terms.{at_mapped, none_some, filter, not, ◌==◌, IfSome, sum_by-append, map-append, map-set, cases_eq, cases_Bool, cases_lt, some, some-injective, get_elem?, at_map, at_set, set_else, Handle, is_prefix, stem, Member, slot_times, times, Rights, Divided, above, comes_back, sum_set, all_set, prefix_refl, stem_push, member_left, member_right, member_cases, filter_member, map_member, Strangers, unites, alone_cases, is_above, shared_same, meets, prefix_cut, prefix_whole, prefix_short_length, prefix_through, OwnView, SharedView, StateView, MarksView, Place, own_place, shared_place, places, claims_of, handle_of, ways, rights_of, Grown, tree_of, Raising, marks_of, Stating, states_of, Has, HasOwn, Out, held_times, Tree, marks, Supported, Climbing, IsStated, AreStated, Meeting, Marked, Lacks, joined, met, spent, United}
 use Rattle.psac_slots.specs.Claiming as claiming
 use Rattle.psac_slots.proofs.Keeps as laws
-use Rattle.psac_marks.proofs.Parts.{here, place_own, place_shared, place_cases}
+use Rattle.psac_marks.proofs.Parts.{each_place, each_has, has_own, has_shared, here, place_own, place_shared}
 use Rattle.psac_marks.proofs.Counted.{times_both}
-use Rattle.psac_marks.proofs.Keeps.{at_mapped}
+use Rattle.psac_marks.proofs.Climbs.{support_moves}
 use Rattle.psac_marks.proofs.Holding.{has_live, branches_apart}
 
 -- a branch below which a node is known stays where it isn't on either side, and else becomes the branch that a join gives
@@ -133,9 +133,6 @@ module _ (b : List Bool) (ps gs fs : List Place) (id other : ℕ) (two : other �
     abbrev pub both_marks : Raising
     both_marks = record { places = ps; dropped = gd ++ fd; marked = gm ++ fm; busy = gb ++ fb; climb = None }
 
-    none_some : (x : ℕ) → ◌≡◌ {A = Option ℕ} None (Some x) → ⊥
-    none_some x e = absurd (cc)
-
     pub climbs_joins : get_elem? all id ≡ some left_marks → get_elem? all other ≡ some right_marks → Climbing nodes words (set (set all id both_marks) other no_marks)
     climbs_joins at was =
         let m = both_marks in
@@ -146,19 +143,13 @@ module _ (b : List Bool) (ps gs fs : List Place) (id other : ℕ) (two : other �
         let a = sum_set (λ (k : Raising). times x k.marked) all id left_marks m at in let c = sum_set (λ (k : Raising). times x k.marked) mid other right_marks no_marks there in let d = times_both x gm fm in omega (arith, a, c, d) in
         let each : (F : Raising → Type 0) → F m → F no_marks → ((j : ℕ) (u : Raising) → get_elem? all j ≡ some u → F u) → (j : ℕ) (u : Raising) → get_elem? after j ≡ some u → F u = λ F fm' fn old.
         all_set (λ _ u. F u) mid other no_marks fn (λ j u n e. all_set (λ _ u. F u) all id m fm' (λ i k o d. old i k d) j u e) in
-        let support : (e : Place) → Supported all e → Supported after e = λ e s. ⊎_elim
-        (λ r. inl r)
-        (λ y. ⊎_elim
-        (λ (p : (p : ℕ) × (e.parent ≡ Some p) × (0 < marks p all)). let a = same p.0 in let c = p.2 in inr (inl (p.0, p.1, omega (arith, a, c))))
-        (λ (c : (j : ℕ) × (r : Raising) × (get_elem? all j ≡ some r) × (r.climb ≡ Some e.node.slot)). ⊎_elim
-        (λ (q : c.0 ≡ id). absurd (none_some e.node.slot (ap (λ (k : Raising). k.climb) (some-injective left_marks c.1 (sym at ∙ (ap (get_elem? all) (sym q) ∙ c.2))) ∙ c.3)))
+        let support : (e : Place) → Supported all e → Supported after e = λ e. support_moves all after e (λ z p. let a = same z in omega (arith, a, p)) (λ j r d c. ⊎_elim
+        (λ (q : j ≡ id). absurd (none_some e.node.slot (ap (λ (k : Raising). k.climb) (some-injective left_marks r (sym at ∙ (ap (get_elem? all) (sym q) ∙ d))) ∙ c)))
         (λ n. ⊎_elim
-        (λ (q : c.0 ≡ other). absurd (none_some e.node.slot (ap (λ (k : Raising). k.climb) (some-injective right_marks c.1 (sym was ∙ (ap (get_elem? all) (sym q) ∙ c.2))) ∙ c.3)))
-        (λ k. inr (inr (c.0, c.1, set_else mid other c.0 no_marks k ∙ (set_else all id c.0 m n ∙ c.2), c.3)))
-        (cases_eq c.0 other))
-        (cases_eq c.0 id))
-        y)
-        s in
+        (λ (q : j ≡ other). absurd (none_some e.node.slot (ap (λ (k : Raising). k.climb) (some-injective right_marks r (sym was ∙ (ap (get_elem? all) (sym q) ∙ d))) ∙ c)))
+        (λ k. inr (inr (j, r, set_else mid other j no_marks k ∙ (set_else all id j m n ∙ d), c)))
+        (cases_eq j other))
+        (cases_eq j id)) in
         record {
           stored = λ x lt. h.stored x lt ∙ ap some (sym (same x));
           once = λ x. let a = same x in let c = h.once x in omega (arith, a, c);
@@ -220,34 +211,21 @@ module _ (v w : MarksView) where
 
   shared_has : (s : SharedView) → Member s v.shared → Has (places (joined v w)) s.node.slot
   shared_has s m = ⊎_elim
-      (λ (p : above ways (stem v.claims.branch) s ≡ true). (shared_place s, place_shared (joined v w) s (filter_member (above ways (stem v.claims.branch)) s v.shared m p), refl))
-      (λ (p : above ways (stem v.claims.branch) s ≡ false). (
-        own_place (stem v.claims.branch) (ways.back s),
-        place_own (joined v w) (ways.back s) (member_right (ways.back s) (v.own ++ w.own) (map ways.back (filter (comes_back ways (stem v.claims.branch)) v.shared))
-            (map_member ways.back s (filter (comes_back ways (stem v.claims.branch)) v.shared) (filter_member (comes_back ways (stem v.claims.branch)) s v.shared m (ap not p)))),
-        refl,
-      ))
+      (λ (p : above ways (stem v.claims.branch) s ≡ true). has_shared (joined v w) s (filter_member (above ways (stem v.claims.branch)) s v.shared m p))
+      (λ (p : above ways (stem v.claims.branch) s ≡ false). has_own (joined v w) (ways.back s) (member_right (ways.back s) (v.own ++ w.own) (map ways.back (filter (comes_back ways (stem v.claims.branch)) v.shared))
+      (map_member ways.back s (filter (comes_back ways (stem v.claims.branch)) v.shared) (filter_member (comes_back ways (stem v.claims.branch)) s v.shared m (ap not p)))))
       (cases_Bool (above ways (stem v.claims.branch) s))
 
   pub from_left : (x : ℕ) → Has (places v) x → Has (places (joined v w)) x
-  from_left x has = subst (Has (places (joined v w))) has.2 (⊎_elim
-      (λ (p : (o : OwnView) × Member o v.own × (own_place v.claims.branch o ≡ has.0)). (own_place (stem v.claims.branch) p.0, place_own (joined v w) p.0 (own_left p.0 p.1), ap (λ (z : Place). z.node.slot) p.2))
-      (λ (p : (s : SharedView) × Member s v.shared × (shared_place s ≡ has.0)). subst (Has (places (joined v w))) (ap (λ (z : Place). z.node.slot) p.2) (shared_has p.0 p.1))
-      (place_cases v has.0 has.1))
+  from_left = each_has v (Has (places (joined v w))) (λ o m. has_own (joined v w) o (own_left o m)) shared_has
 
   pub from_right : ((e : SharedView) → Member e w.shared → Member e v.shared) → (x : ℕ) → Has (places w) x → Has (places (joined v w)) x
-  from_right same x has = subst (Has (places (joined v w))) has.2 (⊎_elim
-      (λ (p : (o : OwnView) × Member o w.own × (own_place w.claims.branch o ≡ has.0)). (own_place (stem v.claims.branch) p.0, place_own (joined v w) p.0 (own_right p.0 p.1), ap (λ (z : Place). z.node.slot) p.2))
-      (λ (p : (s : SharedView) × Member s w.shared × (shared_place s ≡ has.0)). subst (Has (places (joined v w))) (ap (λ (z : Place). z.node.slot) p.2) (shared_has p.0 (same p.0 p.1)))
-      (place_cases w has.0 has.1))
+  from_right same = each_has w (Has (places (joined v w))) (λ o m. has_own (joined v w) o (own_right o m)) (λ s m. shared_has s (same s m))
 
   -- what two sides are together
   pub unites_views : Meeting (record { left = v.own; right = w.own; shared_left = v.shared; shared_right = w.shared }) → United v w (joined v w)
   unites_views m =
-      let lacks : (u : MarksView) (o : OwnView) → ((c : OwnView) → Member c u.own → c.node.slot ≢ o.node.slot) → ((e : SharedView) → Member e u.shared → e.node.slot ≢ o.node.slot) → Lacks u o.node.slot = λ u o f g e has is. ⊎_elim
-      (λ (p : (c : OwnView) × Member c u.own × (own_place u.claims.branch c ≡ e)). f p.0 p.1 (ap (λ (z : Place). z.node.slot) p.2 ∙ is))
-      (λ (p : (s : SharedView) × Member s u.shared × (shared_place s ≡ e)). g p.0 p.1 (ap (λ (z : Place). z.node.slot) p.2 ∙ is))
-      (place_cases u e has) in
+      let lacks : (u : MarksView) (o : OwnView) → ((c : OwnView) → Member c u.own → c.node.slot ≢ o.node.slot) → ((e : SharedView) → Member e u.shared → e.node.slot ≢ o.node.slot) → Lacks u o.node.slot = λ u o f g e has. each_place u (λ e. e.node.slot ≡ o.node.slot → ⊥) f g e has in
       record {
         left_alone = λ o q. lacks w o (λ c r is. m.alone o c q r (sym is)) (λ e r is. m.left o e q r is);
         right_alone = λ o q. lacks v o (λ c r is. m.alone c o r q is) (λ e r is. m.right o e q r is);
@@ -288,35 +266,25 @@ module _ (nodes : ℕ) (words : List ℕ) (views : List MarksView) (h : Marked n
   far : (j : ℕ) (u : MarksView) (e : Place) → j ≢ id → j ≢ other → get_elem? views j ≡ some u → Member e (places u) → (t : Bool) → is_prefix (b ++ t ∷ []) e.domain ≡ false
   far j u e n o d m t =
       let lu = has_live nodes words views h j u e d m in
-      ⊎_elim
-      (λ (p : (k : OwnView) × Member k u.own × (own_place u.claims.branch k ≡ e)). ap (λ (z : Place). is_prefix (b ++ t ∷ []) z.domain) (sym p.2) ∙ aside j u n o d lu t)
-      (λ (p : (k : SharedView) × Member k u.shared × (shared_place k ≡ e)). ap (λ (z : Place). is_prefix (b ++ t ∷ []) z.domain) (sym p.2) ∙ ⊎_elim
-      (λ (q : is_prefix (b ++ t ∷ []) p.0.label ≡ true). absurd (true≢false (sym (prefix_through (b ++ t ∷ []) p.0.label u.claims.branch q ((h.rights.own j (rights_of u) (at_map rights_of views j u d)).labels p.0 p.1).0) ∙ aside j u n o d lu t)))
+      each_place u (λ z. is_prefix (b ++ t ∷ []) z.domain ≡ false) (λ _ _. aside j u n o d lu t)
+      (λ s ms. ⊎_elim
+      (λ (q : is_prefix (b ++ t ∷ []) s.label ≡ true). absurd (true≢false (sym (prefix_through (b ++ t ∷ []) s.label u.claims.branch q ((h.rights.own j (rights_of u) (at_map rights_of views j u d)).labels s ms).0) ∙ aside j u n o d lu t)))
       (λ q. q)
-      (cases_Bool (is_prefix (b ++ t ∷ []) p.0.label)))
-      (place_cases u e m)
+      (cases_Bool (is_prefix (b ++ t ∷ []) s.label)))
+      e m
 
   sources : (e : Place) → Member e (places (joined v w)) → Source b (places v) (places w) e
-  sources e m = ⊎_elim
-      (λ (p : (o : OwnView) × Member o (joined v w).own × (own_place (stem v.claims.branch) o ≡ e)).
-      let dom : e.domain ≡ b = ap (λ (z : Place). z.domain) (sym p.2) ∙ base in
-      ⊎_elim
-      (λ q. (own_place v.claims.branch p.0, inl (place_own v p.0 q), ap (λ (z : Place). z.node) (sym p.2), ap (λ (z : Place). z.parent) (sym p.2), inr (false, lb, dom)))
+  sources = each_place (joined v w) (Source b (places v) (places w))
+      (λ o m. ⊎_elim
+      (λ q. (own_place v.claims.branch o, inl (place_own v o q), refl, refl, inr (false, lb, base)))
       (λ y. ⊎_elim
-      (λ q. (own_place w.claims.branch p.0, inr (place_own w p.0 q), ap (λ (z : Place). z.node) (sym p.2), ap (λ (z : Place). z.parent) (sym p.2), inr (true, rb, dom)))
-      (λ (q : (s : SharedView) × Member s v.shared × (ways.back s ≡ p.0) × (s.label ≡ b)). (
-        shared_place q.0,
-        inl (place_shared v q.0 q.1),
-        ap (λ (z : Place). z.node) (sym p.2) ∙ ap (λ (z : OwnView). z.node) (sym q.2),
-        ap (λ (z : Place). z.parent) (sym p.2) ∙ ap (λ (z : OwnView). z.parent) (sym q.2),
-        inl (dom ∙ sym q.3, short q.0.label (let l = ap length q.3 in omega (arith, l))),
-      ))
+      (λ q. (own_place w.claims.branch o, inr (place_own w o q), refl, refl, inr (true, rb, base)))
+      (λ (q : (s : SharedView) × Member s v.shared × (ways.back s ≡ o) × (s.label ≡ b)).
+      (shared_place q.0, inl (place_shared v q.0 q.1), ap (λ (z : OwnView). z.node) (sym q.2), ap (λ (z : OwnView). z.parent) (sym q.2), inl (base ∙ sym q.3, short q.0.label (let l = ap length q.3 in omega (arith, l)))))
       y)
-      (alone_cases ways (map rights_of views) id other (rights_of v) (rights_of w) b h.rights av aw two live alive lb rb p.0 p.1))
-      (λ (p : (s : SharedView) × Member s (joined v w).shared × (shared_place s ≡ e)).
-      let q = is_above ways (map rights_of views) id other (rights_of v) (rights_of w) b h.rights av aw two live alive lb rb p.0 p.1 in
-      (shared_place p.0, inl (place_shared v p.0 q.0), ap (λ (z : Place). z.node) (sym p.2), ap (λ (z : Place). z.parent) (sym p.2), inl (ap (λ (z : Place). z.domain) (sym p.2), short p.0.label (let l = q.1 in omega (arith, l)))))
-      (place_cases (joined v w) e m)
+      (alone_cases ways (map rights_of views) id other (rights_of v) (rights_of w) b h.rights av aw two live alive lb rb o m))
+      (λ s m. let q = is_above ways (map rights_of views) id other (rights_of v) (rights_of w) b h.rights av aw two live alive lb rb s m in
+      (shared_place s, inl (place_shared v s q.0), refl, refl, inl (refl, short s.label (let l = q.1 in omega (arith, l)))))
 
   two_mapped : {P : Type 0} (f : MarksView → P) (F : List P → Type 0) → F (set (set (map f views) id (f (met v w))) other (f spent)) → F (map f (set (set views id (met v w)) other spent))
   two_mapped f F = subst F (sym (map-set f (set views id (met v w)) other spent ∙ ap (λ z. set z other (f spent)) (map-set f views id (met v w))))

@@ -1,12 +1,20 @@
 -- Leaves and loads keep the rule, and what each step allows.
-use Rattle.std.proofs.Common.{◌≡◌, ◌≢◌, ℕ, suc, ◌+◌, ◌%◌, ◌^◌, ◌<◌, ◌≤◌, List, [], ◌∷◌, map, set, true, cond, refl, sym, ap, ◌∙◌, subst, ⊎_elim, arith, Option, Some, length-set}
-use Rattle.psac_readers.proofs.Terms.{sum_by, ◌==◌, slice_index, sum_by-cons, map-set, set-get_or, cases_eq, eq-eqb, ne_eqb, some, none as vacant, get_elem?, State, Allows, keeps, step, at_map, set_here, set_else, set_again, sole_parts, tells, sum_set, all_set, Stage, Claimed, UnderWay, In, Dead, LinkView, ReadersView, Member, head_at, next_at, dead_at, node_at, Follows, in_set, is_dead, named, linked, alive, deads, Each, mods_of, claims_of, Staged, Knows, Placed, Tells, Readable, Has, Seat, drew, Drew, on_head, noded, Noded, swapped, Swapped, came, Came, die, left, Left, learned, front, IsSet, Began, Loaded, regained, Regained, rewound, Rewound}
+use Rattle.std.proofs.Common.{◌≡◌, ◌≢◌, ℕ, suc, ◌+◌, ◌%◌, ◌^◌, ◌<◌, ◌≤◌, List, [], ◌∷◌, map, set, Bool, true, false, cond, refl, sym, ap, ◌∙◌, subst, ⊎_elim, arith, Some}
+use Rattle.psac_readers.proofs.Terms.{sum_map, same_some, sum_by, ◌==◌, slice_index, map-set, set-get_or, cases_eq, some, none as vacant, get_elem?, State, Allows, keeps, step, at_map, set_here, set_else, set_again, sole_parts, tells, sum_set, all_set, Stage, Claimed, UnderWay, LinkView, ReadersView, Member, head_at, next_at, dead_at, node_at, Follows, in_set, is_dead, is_live, dying, named, linked, alive, deads, Each, mods_of, claims_of, Staged, Knows, Placed, Tells, Readable, Has, Seat, drew, Drew, on_head, noded, Noded, swapped, Swapped, came, Came, left, Left, learned, front, IsSet, Began, Loaded, regained, Regained, rewound, Rewound}
 use Rattle.psac_slots.specs.Claiming as claiming
 use Rattle.psac_slots.specs.Handles as handles
 use Rattle.psac_slots.proofs.Rewinds as turns
-use Rattle.psac_readers.proofs.Links.{each_imp, each_map, sum_map, sum_same, sum_plus, sum_under, only_here, linked_named, alive_deads, die_deads, die_linked, knows_set, knows_die, placed_die, is_there, mods_learn, seen_learn, front_is, behind_is, next_word, node_word, chain_is}
+use Rattle.psac_readers.proofs.Links.{each_stage, restaged, restaged_known, linked_same, in_same, stage_else, staged_set, each_map, sum_same, sum_plus, sum_under, only_here, linked_named, alive_deads, is_there, mods_learn, seen_learn, front_is, behind_is, next_word, node_word, chain_is}
 use Rattle.psac_readers.proofs.Rewinding.{rewinds_at, regains_at, nothing_shared, holds_all, dead_alone}
-use Rattle.psac_readers.proofs.Keeps.{same_rights, same_claims, single, inside, here_once, others_stay, draws_at, own_store, low, swaps_at}
+use Rattle.psac_readers.proofs.Keeps.{known_far, stored_at, same_rights, same_claims, single, inside, here_once, draws_at, own_store, low, swaps_at}
+
+-- who was live is dead from then on
+die_here : (l : ℕ) (k : LinkView) → deads l (restaged dying l k) ≡ deads l k + alive l k
+die_here l k = by (k.link == l)
+  where
+    by : (b : Bool) → cond b (is_dead (cond b (dying k.stage) k.stage)) 0 ≡ cond b (is_dead k.stage) 0 + cond b (is_live k.stage) 0
+    by true = each_stage (λ s. is_dead (dying s) ≡ is_dead s + is_live s) refl (λ n. refl) refl refl k.stage
+    by false = refl
 
 module _ (links mods : ℕ) (words : List ℕ) (views : List ReadersView) (h : Readable links mods words views) (id : ℕ) (v : ReadersView) (at : get_elem? views id ≡ some v) where
   pub alive_here : (l : ℕ) → sum_by (alive l) v.links + sum_by (deads l) v.links ≤ sum_by (named l) v.links
@@ -17,56 +25,44 @@ module _ (links mods : ℕ) (words : List ℕ) (views : List ReadersView) (h : R
   dead_here l p = only_here (λ (u : ReadersView). sum_by (deads l) u.links) (λ (u : ReadersView). sum_by (named l) u.links)
       (λ u. sum_under (deads l) (named l) (λ k. let a = alive_deads l k in omega (arith, a)) u.links) views id v at (single links mods words views h id v at l) p
 
+  -- a link's stage changes, and its dead word with it
+  pub restages_at : (g : Stage → Stage) (l x : ℕ) → ((s : Stage) → in_set (g s) ≡ in_set s) → ((ws : List ℕ) (y : ℕ) (s : Stage) → Staged links mods ws h.sets.next y s → Staged links mods ws h.sets.next y (g s))
+      → 0 < sum_by (named l) v.links → sum_by (deads l) (map (restaged g l) v.links) ≡ x → Readable links mods (set words (dead_at links mods l) x) (set views id (record v { links = map (restaged g l) v.links }))
+  restages_at g l x same staged mine now =
+      let i = dead_at links mods l in
+      let w : ReadersView = record v { links = map (restaged g l) v.links } in
+      let t = h.sets.tells id v at in
+      let know = known_far links mods words views h id v at i x (λ y. ((λ q. absurd (omega (arith, q))), (λ q. absurd (omega (arith, q))))) in
+      let linked_stay : (m y : ℕ) → sum_by (linked m y) w.links ≡ sum_by (linked m y) v.links = λ m y. sum_map (restaged g l) (linked m y) v.links ∙ sum_same (λ k. linked m y (restaged g l k)) (linked m y) (linked_same g same l m y) v.links in
+      let named_stay : (y : ℕ) → sum_by (named y) w.links ≡ sum_by (named y) v.links = λ y. sum_map (restaged g l) (named y) v.links in
+      let deads_stay : (y : ℕ) → y ≢ l → sum_by (deads y) w.links ≡ sum_by (deads y) v.links = λ y n. sum_map (restaged g l) (deads y) v.links ∙ sum_same (λ k. deads y (restaged g l k)) (deads y) (λ k. stage_else g is_dead l y k n) v.links in
+      stored_at links mods words views h id v at w i x h.counter h.head h.list (λ m lt q. absurd (omega (arith, q, lt))) (same_claims links mods words views h id v at w refl i x (omega arith)) refl
+      (λ y lt. ⊎_elim
+      (λ (e : y ≡ l). subst (λ z. get_elem? (set words i x) (dead_at links mods z) ≡ some (sum_by (λ (u : ReadersView). sum_by (deads z) u.links) (set views id w))) (sym e)
+      (set_here words i x (let a = h.sets.long in omega (arith, a, inside links mods words views h id v at l mine)) ∙ ap some
+      (let s = sum_set (λ (u : ReadersView). sum_by (deads l) u.links) views id v w at in let d = dead_here l mine in omega (arith, s, now, d))))
+      (λ (n : y ≢ l). set_else words i (dead_at links mods y) x (λ q. n (omega (arith, q))) ∙ (h.sets.stored y lt ∙ ap some
+      (let s = sum_set (λ (u : ReadersView). sum_by (deads y) u.links) views id v w at in let q = deads_stay y n in omega (arith, s, q))))
+      (cases_eq y l))
+      linked_stay
+      (λ y. let a = named_stay y in omega (arith, a))
+      record {
+        mods_is = t.mods_is;
+        known = each_map (Knows links mods (set words i x) h.sets.next) (Knows links mods (set words i x) h.sets.next) (restaged g l) (λ k q. restaged_known links mods (set words i x) h.sets.next g l k (staged (set words i x) k.link) q) v.links (know v.links t.known);
+        placed = each_map (Placed (mods_of v.walk) v.shared) (Placed (mods_of v.walk) v.shared) (restaged g l) (λ k q e. q (sym (in_same g same (k.link == l) k.stage) ∙ e)) v.links t.placed;
+        whole = λ m has y. linked_stay m y ∙ t.whole m has y;
+        seen = t.seen;
+        gone = λ z. ap (map (restaged g l)) (t.gone z);
+      }
+      (λ j u n e q. know u.links q)
+
   pub leaves_at : (l : ℕ) → 0 < sum_by (alive l) v.links → Readable links mods (set words (dead_at links mods l) 1) (set views id (left l v))
   leaves_at l p =
-      let i = dead_at links mods l in
-      let w = left l v in
-      let t = h.sets.tells id v at in
-      let mine : 0 < sum_by (named l) v.links = let a = alive_here l in omega (arith, a, p) in
-      let know : (ks : List LinkView) → Each (Knows links mods words h.sets.next) ks → Each (Knows links mods (set words i 1) h.sets.next) ks =
-      each_imp (Knows links mods words h.sets.next) (Knows links mods (set words i 1) h.sets.next) (λ k p. knows_set links mods words h.sets.next h.sets.next i 1 k (λ q. absurd (omega (arith, q))) (λ q. absurd (omega (arith, q))) refl p) in
-      let linked_stay : (m x : ℕ) → sum_by (linked m x) w.links ≡ sum_by (linked m x) v.links = λ m x. sum_map (die l) (linked m x) v.links ∙ sum_same (λ k. linked m x (die l k)) (linked m x) (λ k. die_linked l m x k) v.links in
-      let named_stay : (x : ℕ) → sum_by (named x) w.links ≡ sum_by (named x) v.links = λ x. sum_map (die l) (named x) v.links in
-      let deads_grow : (x : ℕ) → sum_by (deads x) w.links ≡ sum_by (deads x) v.links + sum_by (λ k. cond (l == x) (alive l k) 0) v.links =
-      λ x. sum_map (die l) (deads x) v.links ∙ sum_plus (deads x) (λ k. cond (l == x) (alive l k) 0) (λ k. deads x (die l k)) (λ k. die_deads l x k) v.links in
-      record {
-        counter = h.counter;
-        head = h.head;
-        list = h.list;
-        claims = same_claims links mods words views h id v at w refl i 1 (omega arith);
-        rights = same_rights links mods words views h id v at w refl;
-        sets = record {
-          next = h.sets.next;
-          chain = h.sets.chain;
-          beyond = h.sets.beyond;
-          long = (let a = h.sets.long in let b = length-set words i 1 in omega (arith, a, b));
-          heads = λ m lt. let o = h.sets.heads m lt in (o.0, set_else words i (head_at links m) 1 (λ q. absurd (omega (arith, q, lt))) ∙ o.1, o.2);
-          stored = λ x lt. let s = sum_set (λ (u : ReadersView). sum_by (deads x) u.links) views id v w at in let g = deads_grow x in ⊎_elim
-              (λ (e : x ≡ l). subst (λ y. get_elem? (set words i 1) (dead_at links mods y) ≡ some (sum_by (λ (u : ReadersView). sum_by (deads y) u.links) (set views id w))) (sym e)
-              (set_here words i 1 (let a = h.sets.long in omega (arith, a, inside links mods words views h id v at l mine)) ∙ ap some
-              (let s' = sum_set (λ (u : ReadersView). sum_by (deads l) u.links) views id v w at in let g' = deads_grow l in let q = sum_same (λ k. cond (l == l) (alive l k) 0) (alive l) (λ k. ap (λ b. cond b (alive l k) 0) (eq-eqb l l refl)) v.links in
-              let d = dead_here l mine in let a = alive_here l in let o = here_once links mods words views h id v at l in omega (arith, s', g', q, d, a, o, p))))
-              (λ (n : x ≢ l). set_else words i (dead_at links mods x) 1 (λ q. n (omega (arith, q))) ∙ (h.sets.stored x lt ∙ ap some
-              (let q = sum_same (λ k. cond (l == x) (alive l k) 0) (λ _. 0) (λ k. ap (λ b. cond b (alive l k) 0) (ne_eqb l x (λ e. n (sym e)))) v.links in let z = zeroes v.links in omega (arith, s, g, q, z))))
-              (cases_eq x l);
-          counted = λ m x. let s = sum_set (λ (u : ReadersView). sum_by (linked m x) u.links) views id v w at in let a = linked_stay m x in let o = h.sets.counted m x in omega (arith, s, a, o);
-          owed = λ x. let s = sum_set (λ (u : ReadersView). sum_by (named x) u.links) views id v w at in let a = named_stay x in let r = sum_set (λ (u : ReadersView). handles.slot_times x u.claims.held) views id v w at in let o = h.sets.owed x in omega (arith, s, a, o, r);
-          tells = all_set (λ _ u. Tells links mods (set words i 1) h.sets.next h.sets.chain u) views id w
-              record {
-                mods_is = t.mods_is;
-                known = each_map (Knows links mods (set words i 1) h.sets.next) (Knows links mods (set words i 1) h.sets.next) (die l) (λ k q. knows_die links mods (set words i 1) h.sets.next l k q) v.links (know v.links t.known);
-                placed = each_map (Placed (mods_of v.walk) v.shared) (Placed (mods_of v.walk) v.shared) (die l) (λ k q. placed_die (mods_of v.walk) v.shared l k q) v.links t.placed;
-                whole = λ m has x. linked_stay m x ∙ t.whole m has x;
-                seen = t.seen;
-                gone = λ z. ap (map (die l)) (t.gone z);
-              }
-              (others_stay links mods words views h id v at i 1 (λ j u n e q. know u.links q));
-        };
-      }
-    where
-      zeroes : (ks : List LinkView) → sum_by (λ (k : LinkView). 0) ks ≡ 0
-      zeroes [] = refl
-      zeroes (k ∷ ks) = omega (arith, sum_by-cons (λ (x : LinkView). 0) k ks, zeroes ks)
+      let a = alive_here l in
+      restages_at dying l 1 (each_stage (λ s. in_set (dying s) ≡ in_set s) refl (λ n. refl) refl refl)
+      (λ ws y. each_stage (λ s. Staged links mods ws h.sets.next y s → Staged links mods ws h.sets.next y (dying s)) (λ q. q) (λ n q. q) (λ q. q) (λ q. q))
+      (omega (arith, a, p))
+      (let b = sum_map (restaged dying l) (deads l) v.links ∙ sum_plus (deads l) (alive l) (λ k. deads l (restaged dying l k)) (die_here l) v.links in let o = here_once links mods words views h id v at l in omega (arith, a, b, o, p))
 
   learns_at : (m : ℕ) → Readable links mods words (set views id (learned m (h.sets.chain m) v))
   learns_at m =
@@ -103,9 +99,6 @@ module _ (links mods : ℕ) (words : List ℕ) (views : List ReadersView) (h : R
   pub count_is : v.claims.live ≡ true → v.claims.count ≡ links
   count_is live = (h.claims.each id v.claims (at_map claims_of views id v at)).count_is live
 
-Rule : ℕ → ℕ → State (Unit {0}) ReadersView → Type 0
-Rule links mods s = Readable links mods s.words s.views
-
 same_words : (links mods : ℕ) (words : List ℕ) (views : List ReadersView) (i : ℕ) → Readable links mods words views → Readable links mods (set words i (slice_index words i)) views
 same_words links mods words views i h = subst (λ (ws : List ℕ). Readable links mods ws views) (sym (set-get_or words i 0)) h
 
@@ -133,22 +126,10 @@ module _ (links mods slots id : ℕ) (v : ReadersView) (hs : List (ℕ × Unit {
         tt,
         own_store links mods s.words s.views h id v at k (noded x k) ks lv w lw refl (λ _. refl) refl refl refl i x (omega (arith, z)) (λ l q. absurd (omega (arith, q, z)))
             (λ l n. (λ q. absurd (omega (arith, q, z)), λ q. n (omega (arith, q, z)))) (λ _ _. refl) (λ _. refl) refl refl
-            (λ p. let kept = knows_stage s.words h.sets.next k i x (λ q. absurd (omega (arith, q, z))) p in
-            (kept, λ y e. subst (λ (q : ℕ × ℕ). get_elem? (set s.words i x) q.0 ≡ some q.1) (λ j. (z j, some_num x y e j)) (set_here s.words i x (omega (arith, z, long, in_range))))),
+            (λ p. let kept = staged_set links mods s.words h.sets.next h.sets.next i x k.link (λ q. absurd (omega (arith, q, z))) refl k.stage p.0 in
+            (kept, λ y e. subst (λ (q : ℕ × ℕ). get_elem? (set s.words i x) q.0 ≡ some q.1) (λ j. (z j, same_some x y e j)) (set_here s.words i x (omega (arith, z, long, in_range))))),
         refl,
       )
-    where
-      some_num : (a b : ℕ) → ◌≡◌ {A = Option ℕ} (Some a) (Some b) → a ≡ b
-      some_num a b e = cc
-
-      knows_stage : (words : List ℕ) (next : ℕ → ℕ) (k : LinkView) (i x : ℕ) → i ≢ next_at links mods k.link → Knows links mods words next k → Staged links mods (set words i x) next k.link k.stage
-      knows_stage words next k i x n p = (by k.stage p.0)
-        where
-          by : (s : Stage) → Staged links mods words next k.link s → Staged links mods (set words i x) next k.link s
-          by Claimed p = tt
-          by (UnderWay n) p = p
-          by In p = set_else words i (next_at links mods k.link) x (λ q. n (sym q)) ∙ p
-          by Dead p = set_else words i (next_at links mods k.link) x (λ q. n (sym q)) ∙ p
 
   pub swaps : (k : LinkView) (ks : List LinkView) (m i new : ℕ) → v.links ≡ k ∷ ks → k.stage ≡ Claimed → m < v.mods → Has m v → i ≡ head_at v.claims.count m → new ≡ suc k.link
       → Allows (λ (s : State (Unit {0}) ReadersView). Readable links mods s.words s.views) slots id (v, hs) i (λ _. new) (Swapped (step slots i new 0 vacant) (v, hs))

@@ -1,6 +1,6 @@
 -- What a caller needs of forks and joins.
-use Rattle.std.proofs.Common.{◌≡◌, ℕ, ◌≤◌, List, [], ◌∷◌, ◌++◌, map, length, Bool, true, false, refl, ap, ◌∙◌, subst, inr, arith, Result, Ok, Err}
-use Rattle.psac_readers.proofs.Terms.{filter, not, IfOk, IfErr, le-ltb, Full, stem, stem_push, WalkView, SharedView, ReadersView, Link, Member, comes_back as returns, mods_of, ways, Has, left_of, right_of, joined, unknown, drew, Entered, member_right, map_member, filter_member}
+use Rattle.std.proofs.Common.{◌≡◌, ℕ, List, [], ◌∷◌, ◌++◌, map, length, Bool, true, false, refl, ap, ◌∙◌, subst, inr, arith}
+use Rattle.psac_readers.proofs.Terms.{filter, not, le-ltb, stem, stem_push, WalkView, SharedView, ReadersView, Member, comes_back as returns, mods_of, ways, Has, left_of, right_of, joined, unknown, member_right, map_member, filter_member}
 use Rattle.psac_readers.proofs.Sides.{in_told}
 
 module _ (f g : ℕ → Bool) (v : ReadersView) (m : ℕ) (mine : Member m (mods_of v.walk)) where
@@ -9,11 +9,6 @@ module _ (f g : ℕ → Bool) (v : ReadersView) (m : ℕ) (mine : Member m (mods
 
   pub right_has : Has m (right_of (λ _. true) f g v)
   right_has = inr (in_told (λ _. true) f g v m mine refl)
-
--- an enter keeps what is shared, and the branch
-pub after_enter : (r : Result Link Full) (m x : ℕ) (v w : ReadersView) → IfOk r (λ l. Entered v m x l.index w) → IfErr r (λ f. (f.room ≡ length v.claims.list) × (f.room ≤ f.index) × (w ≡ drew v f.index)) → (w.shared ≡ v.shared) × (w.claims.branch ≡ v.claims.branch)
-after_enter (Ok l) m x v w h q = (ap (λ (z : ReadersView). z.shared) h.3, ap (λ (z : ReadersView). z.claims.branch) h.3)
-after_enter (Err e) m x v w h q = (ap (λ (z : ReadersView). z.shared) q.2, ap (λ (z : ReadersView). z.claims.branch) q.2)
 
 -- what is shared from the branch on comes back at the join
 pub comes_back : (v w : ReadersView) (m : ℕ) (b : List Bool) (e : SharedView) → Member e v.shared → e.of ≡ m → e.label ≡ b → v.claims.branch ≡ b ++ false ∷ [] → Member m (mods_of (joined v w).walk)

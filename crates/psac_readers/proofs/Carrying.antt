@@ -1,19 +1,13 @@
 -- What passes carry over forks, joins and leaves.
-use Rattle.std.proofs.Common.{◌≡◌, ◌⊎◌, ℕ, ◌+◌, ◌-◌, ◌<◌, List, [], ◌∷◌, length, take, Bool, true, false, cond, refl, sym, ap, ◌∙◌, subst, inl, inr, ⊎_elim, arith, Some}
-use Rattle.psac_readers.proofs.Terms.{sum_by, not, ◌==◌, sum_by-cons, eq-eqb, eqb-true, Stage, Claimed, UnderWay, In, Dead, LinkView, ReadersView, named, alive, is_live, Each, rest_is, regained, rewound, Fine, is_settled, die, dying, left, learned, left_of, right_of, joined, right_link, Carries}
+use Rattle.std.proofs.Common.{◌≡◌, ℕ, ◌+◌, ◌-◌, ◌<◌, List, [], ◌∷◌, length, take, Bool, cond, refl, sym, ap, ◌∙◌, arith, Some}
+use Rattle.psac_readers.proofs.Terms.{sum_by, not, sum_by-cons, eq-eqb, LinkView, ReadersView, named, alive, Each, rest_is, regained, rewound, Fine, is_settled, die, dying, left, learned, left_of, right_of, joined, right_link, Carries}
 use Rattle.psac_slots.specs.Claiming as claiming
-use Rattle.psac_readers.proofs.Links.{each_append, each_filter, each_map, each_imp}
-
-settled_die : (s : Stage) (b : Bool) → is_settled s ≡ 1 → is_settled (cond b (dying s) s) ≡ 1
-settled_die Claimed true e = e
-settled_die (UnderWay n) true e = e
-settled_die In true e = refl
-settled_die Dead true e = refl
-settled_die s false e = e
+use Rattle.psac_readers.proofs.Links.{each_stage, restaged_fine, alive_deads, sum_under, each_append, each_filter, each_map, each_imp}
+use Rattle.psac_readers.proofs.Walking.{named_low}
 
 module _ (links mods head room words : ℕ) (v : ReadersView) (c : Carries links mods head room words v) where
   -- the same ring and the same sizes
-  renewed : (w : ReadersView) → w.claims.live ≡ v.claims.live → w.claims.count ≡ v.claims.count → w.mods ≡ v.mods → w.claims.head ≡ v.claims.head → w.claims.list ≡ v.claims.list → Each (Fine links) w.links
+  pub renewed : (w : ReadersView) → w.claims.live ≡ v.claims.live → w.claims.count ≡ v.claims.count → w.mods ≡ v.mods → w.claims.head ≡ v.claims.head → w.claims.list ≡ v.claims.list → Each (Fine links) w.links
       → Carries links mods head room words w
   renewed w a b d e f fine = record {
     live = a ∙ c.live;
@@ -30,7 +24,7 @@ module _ (links mods head room words : ℕ) (v : ReadersView) (c : Carries links
 
   pub carries_dead : (l : ℕ) → Carries links mods head room words (left l v)
   carries_dead l = renewed (left l v) refl refl refl refl refl
-      (each_map (Fine links) (Fine links) (die l) (λ k f. record { low = f.low; settled = settled_die k.stage (k.link == l) f.settled; node = f.node }) v.links c.fine)
+      (each_map (Fine links) (Fine links) (die l) (restaged_fine dying (each_stage (λ s. is_settled s ≡ 1 → is_settled (dying s) ≡ 1) (λ e. e) (λ n e. e) (λ e. refl) (λ e. refl)) links l) v.links c.fine)
 
   pub carries_left : (f g h : ℕ → Bool) → Carries links mods head room words (left_of f g h v)
   carries_left f g h = renewed (left_of f g h v) refl refl refl refl refl (each_filter (Fine links) (λ k. not (right_link f g h k)) v.links c.fine)
@@ -77,12 +71,4 @@ module _ (links mods head room words : ℕ) (v : ReadersView) (c : Carries links
 
   -- a live link of the pass is below the number of links
   pub alive_low : (l : ℕ) → 0 < sum_by (alive l) v.links → l < links
-  alive_low l p = by v.links c.fine p
-    where
-      one : (k : LinkView) (b : Bool) → (k.link == l) ≡ b → Fine links k → (cond b (is_live k.stage) 0 ≡ 0) ⊎ (l < links)
-      one k true e f = inr (subst (λ x. x < links) (eqb-true k.link l e) f.low)
-      one k false e f = inl refl
-
-      by : (ks : List LinkView) → Each (Fine links) ks → 0 < sum_by (alive l) ks → l < links
-      by [] f p = absurd (omega (arith, p))
-      by (k ∷ ks) f p = ⊎_elim (λ (z : alive l k ≡ 0). by ks f.1 (let s = sum_by-cons (alive l) k ks in omega (arith, s, p, z))) (λ q. q) (one k (k.link == l) refl f.0)
+  alive_low l p = named_low links l v.links c.fine (let a = sum_under (alive l) (named l) (λ k. let b = alive_deads l k in omega (arith, b)) v.links in omega (arith, a, p))

@@ -1,28 +1,25 @@
 -- The views on the way of an enter.
-use Rattle.std.proofs.Common.{◌≡◌, ℕ, suc, ◌+◌, ◌/◌, ◌%◌, ◌<◌, List, [], ◌∷◌, ◌++◌, map, length, cond, refl, sym, ap, ◌∙◌, arith, subst, inl, inr, ⊎_elim}
-use Rattle.psac_readers.proofs.Terms.{sum_by, sum_by-cons, eq-eqb, none as vacant, get_elem?, step, Handle, claimed_entry, LinkView, ReadersView, named, mods_of, Seat, new_link, drew, on_head, noded, swapped, came, entered, Loaded, Has, Carries, Member}
+use Rattle.std.proofs.Common.{◌≡◌, ℕ, ◌+◌, ◌%◌, ◌<◌, List, [], ◌∷◌, ◌++◌, map, length, cond, refl, sym, ap, ◌∙◌, arith, subst, inl, inr, ⊎_elim}
+use Rattle.psac_readers.proofs.Terms.{handle_at, sum_by, sum_by-cons, eq-eqb, none as vacant, get_elem?, step, claimed_entry, LinkView, ReadersView, named, mods_of, Seat, new_link, drew, on_head, noded, swapped, came, entered, Loaded, Has, Carries, Member}
 use Rattle.psac_slots.specs.Claiming as claiming
 use Rattle.psac_readers.proofs.Links.{mods_forget}
-
--- the handle of a word
-abbrev pub handle_of : ℕ → Handle
-handle_of word = record { slot = word % 4294967296; generation = word / 4294967296 }
+use Rattle.psac_readers.proofs.Carrying.{renewed}
 
 abbrev pub with_links : ReadersView → ℕ → List LinkView → ReadersView
 with_links v n ks = record (drew v n) { links = ks }
 
 pub record Got (v : ReadersView) (n word : ℕ) (me : Seat) : Type 0 where
-  pub view : me ≡ (with_links v n (new_link (handle_of word) ∷ v.links), [])
-  pub entry : claiming.entry v.claims.list n ≡ handle_of word ∷ []
+  pub view : me ≡ (with_links v n (new_link (handle_at word) ∷ v.links), [])
+  pub entry : claiming.entry v.claims.list n ≡ handle_at word ∷ []
   pub low : word % 4294967296 < v.claims.count
   pub new : sum_by (named (word % 4294967296)) v.links ≡ 0
 
 pub got : (slots i n word : ℕ) (v : ReadersView) (me1 me2 : Seat) → me1 ≡ (drew v n, []) → Loaded (step slots i 0 0 vacant) me1 word me2 → i ≡ claiming.place v.claims.count (v.claims.head + n) → n < length v.claims.list → Got v n word me2
 got slots i n word v me1 me2 e1 l is small =
-    let entry : claiming.entry v.claims.list n ≡ handle_of word ∷ [] = claimed_entry v.claims.list n word small
+    let entry : claiming.entry v.claims.list n ≡ handle_at word ∷ [] = claimed_entry v.claims.list n word small
     (λ h at. l.entry n (is ∙ (λ j. claiming.place (sym e1 j).0.claims.count ((sym e1 j).0.claims.head + n))) h (ap (λ (z : Seat). get_elem? z.0.claims.list n) e1 ∙ at)) in
-    let links : (drew v n).links ≡ new_link (handle_of word) ∷ v.links = ap (λ es. map new_link es ++ v.links) entry in
-    let k = new_link (handle_of word) in
+    let links : (drew v n).links ≡ new_link (handle_at word) ∷ v.links = ap (λ es. map new_link es ++ v.links) entry in
+    let k = new_link (handle_at word) in
     let one : named k.link k ≡ 1 = ap {B = ℕ} (λ b. cond b 1 0) (eq-eqb k.link k.link refl) in
     let there : sum_by (named k.link) me1.0.links ≡ named k.link k + sum_by (named k.link) v.links = ap (λ (z : Seat). sum_by (named k.link) z.0.links) e1 ∙ (ap (sum_by (named k.link)) links ∙ sum_by-cons (named k.link) k v.links) in
     record {
@@ -47,25 +44,7 @@ last v n word m x old me2 me3 me4 me5 g e3 e4 e5 = e5 ∙ ap F_came (e4 ∙ ap (
 
 -- what a pass carries after an enter
 pub carries : (links mods head room words n m x l : ℕ) (v : ReadersView) → Carries links mods head room words v → l < links → Carries links mods head room words (entered v n m x l)
-carries links mods head room words n m x l v c low = record {
-  live = c.live;
-  links_is = c.links_is;
-  mods_is = c.mods_is;
-  head_is = c.head_is;
-  room_is = c.room_is;
-  room_fits = c.room_fits;
-  head_fits = c.head_fits;
-  words_is = c.words_is;
-  small = c.small;
-  fine = (record { low = low; settled = refl; node = (x, refl) }, c.fine);
-}
-
--- the place that the code computes
-pub place_is : (head count n a b : ℕ) → head ≡ a → count ≡ b → (head + n) % count + 1 ≡ claiming.place b (a + n)
-place_is head count n a b e f = (λ j. (e j + n) % (f j) + 1) ∙ plus ((a + n) % b)
-  where
-    plus : (x : ℕ) → x + 1 ≡ suc x
-    plus x = omega arith
+carries links mods head room words n m x l v c low = renewed links mods head room words v c (entered v n m x l) refl refl refl refl refl (record { low = low; settled = refl; node = (x, refl) }, c.fine)
 
 -- an enter keeps the sets that the pass has
 pub still_has : (v w : ReadersView) (n m x l : ℕ) → w ≡ entered v n m x l → (y : ℕ) → Has y v → Has y w

@@ -1,9 +1,9 @@
 -- The views on the way of a link that is given back.
 use Rattle.std.proofs.Common.{◌≡◌, ℕ, ◌+◌, ◌<◌, List, [], ◌∷◌, ◌++◌, map, length, Bool, true, false, cond, refl, ap, ◌∙◌, ⊎_elim, arith, length-append}
-use Rattle.psac_readers.proofs.Terms.{sum_by, filter, not, ◌==◌, sum_by-cons, Handle, has_room, accounted_returned, Stage, Claimed, UnderWay, In, Dead, LinkView, ReadersView, head_at, times, in_set, is_live, named, alive, Each, reviving, revive, revived, leaving, take_off, lose, unlinked, other_link, freed, swept_one, is_settled, Fine, led_from, IsSet, Carries}
+use Rattle.psac_readers.proofs.Terms.{sum_map, sum_by, filter, not, ◌==◌, sum_by-cons, Handle, has_room, accounted_returned, Stage, LinkView, ReadersView, head_at, times, in_set, is_live, named, alive, Each, reviving, revive, revived, leaving, take_off, lose, unlinked, other_link, freed, swept_one, is_settled, Fine, led_from, IsSet, Carries}
 use Rattle.psac_slots.specs.Handles as handles
 use Rattle.psac_slots.specs.Claiming as claiming
-use Rattle.psac_readers.proofs.Links.{each_map, each_filter, sum_map}
+use Rattle.psac_readers.proofs.Links.{each_stage, restaged_fine, each_map, each_filter}
 use Rattle.psac_readers.proofs.Taking.{stands}
 use Rattle.psac_readers.proofs.Unlinking.{one_if, times_append, snoc, led_last}
 use Rattle.psac_readers.proofs.Walking.{chain_named, named_low}
@@ -12,20 +12,14 @@ up : (n l : ℕ) (k : LinkView) → Fine n k → alive l (revive l k) ≡ named 
 up n l k f = by (k.link == l) k.stage f.settled
   where
     by : (b : Bool) (s : Stage) → is_settled s ≡ 1 → ◌≡◌ {A = ℕ} (cond b (is_live (cond b (reviving s) s)) 0) (cond b 1 0)
-    by true Claimed e = absurd (omega (arith, e))
-    by true (UnderWay n) e = absurd (omega (arith, e))
-    by true In e = refl
-    by true Dead e = refl
+    by true s e = each_stage (λ s. is_settled s ≡ 1 → is_live (reviving s) ≡ 1) (λ e. absurd (omega (arith, e))) (λ n e. absurd (omega (arith, e))) (λ e. refl) (λ e. refl) s e
     by false s e = refl
 
 down : (n l : ℕ) (k : LinkView) → Fine n k → stands l (take_off l (revive l k)) ≡ 0
 down n l k f = by (k.link == l) k.stage f.settled
   where
     by : (b : Bool) (s : Stage) → is_settled s ≡ 1 → cond b (in_set (cond b (leaving (cond b (reviving s) s)) (cond b (reviving s) s))) 0 ≡ 0
-    by true Claimed e = refl
-    by true (UnderWay n) e = absurd (omega (arith, e))
-    by true In e = refl
-    by true Dead e = refl
+    by true s e = each_stage (λ s. is_settled s ≡ 1 → in_set (leaving (reviving s)) ≡ 0) (λ e. refl) (λ n e. absurd (omega (arith, e))) (λ e. refl) (λ e. refl) s e
     by false s e = refl
 
 pub revived_alive : (n l : ℕ) (ks : List LinkView) → Each (Fine n) ks → sum_by (alive l) (map (revive l) ks) ≡ sum_by (named l) ks
@@ -36,15 +30,8 @@ pub unlinked_out : (n l : ℕ) (ks : List LinkView) → Each (Fine n) ks → sum
 unlinked_out n l [] f = refl
 unlinked_out n l (k ∷ ks) f = omega (arith, sum_by-cons (stands l) (take_off l (revive l k)) (map (take_off l) (map (revive l) ks)), down n l k f.0, unlinked_out n l ks f.1)
 
-settled_revive : (s : Stage) (b : Bool) → is_settled s ≡ 1 → is_settled (cond b (reviving s) s) ≡ 1
-settled_revive Claimed true e = e
-settled_revive (UnderWay n) true e = e
-settled_revive In true e = refl
-settled_revive Dead true e = refl
-settled_revive s false e = e
-
 pub revived_fine : (n l : ℕ) (ks : List LinkView) → Each (Fine n) ks → Each (Fine n) (map (revive l) ks)
-revived_fine n l ks f = each_map (Fine n) (Fine n) (revive l) (λ k g. record { low = g.low; settled = settled_revive k.stage (k.link == l) g.settled; node = g.node }) ks f
+revived_fine n l = each_map (Fine n) (Fine n) (revive l) (restaged_fine reviving (each_stage (λ s. is_settled s ≡ 1 → is_settled (reviving s) ≡ 1) (λ e. e) (λ n e. e) (λ e. refl) (λ e. refl)) n l)
 
 pub still_named : (l : ℕ) (ks : List LinkView) → sum_by (named l) (map (take_off l) (map (revive l) ks)) ≡ sum_by (named l) ks
 still_named l ks = sum_map (take_off l) (named l) (map (revive l) ks) ∙ sum_map (revive l) (named l) ks

@@ -1,17 +1,10 @@
 -- Each step of an enter keeps the rule.
-use Rattle.std.proofs.Common.{◌≡◌, ◌≢◌, ◌⊎◌, ℕ, zero, suc, ◌+◌, ◌%◌, ◌^◌, ◌<◌, ◌≤◌, List, [], ◌∷◌, map, length, set, Bool, true, false, true≢false, cond, ltb, refl, sym, ap, ◌∙◌, subst, inl, inr, ⊎_elim, arith, Option, Some, None, length-set}
-use Rattle.psac_readers.proofs.Terms.{sum_by, ◌==◌, slice_index, sum_by-cons, sum_by-append, map-set, cases_eq, eq-eqb, ne_eqb, some, some-ne-none, some-injective, get_elem?, at_map, set_here, set_else, set_again, ClaimView, Handle, sum_set, sum_at, sum_two, all_set, Claimed, LinkView, WalkView, SharedView, ReadersView, Member, Divided, at_most_once, head_at, next_at, dead_at, node_at, Follows, in_set, is_dead, named, linked, deads, times, Each, mods_of, claims_of, rights_of, ways, Knows, Placed, Seen, Tells, Readable, Has, new_link, drew, on_head, forget, way, swapped}
+use Rattle.std.proofs.Common.{◌≡◌, ◌≢◌, ◌⊎◌, ℕ, zero, suc, ◌+◌, ◌%◌, ◌^◌, ◌<◌, ◌≤◌, List, [], ◌∷◌, map, length, set, Bool, true, false, true≢false, cond, refl, sym, ap, ◌∙◌, subst, inl, inr, ⊎_elim, arith, Some, None, length-set}
+use Rattle.psac_readers.proofs.Terms.{none_some, slot_below, sum_map, sum_by, ◌==◌, slice_index, sum_by-cons, sum_by-append, map-set, cases_eq, eq-eqb, ne_eqb, some, some-ne-none, some-injective, get_elem?, at_map, set_here, set_else, set_again, ClaimView, Handle, sum_set, sum_at, sum_two, all_set, Claimed, LinkView, WalkView, SharedView, ReadersView, Member, Divided, at_most_once, head_at, next_at, dead_at, node_at, Follows, in_set, is_dead, named, linked, deads, times, Each, mods_of, claims_of, rights_of, ways, Knows, Placed, Seen, Tells, Readable, Has, new_link, drew, on_head, forget, way, swapped}
 use Rattle.psac_slots.specs.Claiming as claiming
 use Rattle.psac_slots.specs.Handles as handles
 use Rattle.psac_slots.proofs.Keeps as laws
-use Rattle.psac_readers.proofs.Links.{each_imp, each_append, each_tail, sum_under, sum_map, new_named, new_linked, new_deads, linked_named, follows_else, each_named, knows_set, is_there, mods_forget}
-
-once_or : (k n : ℕ) → 0 < handles.once_below k n → k < n
-once_or k n p = by (ltb k n) refl p
-  where
-    by : (b : Bool) → ltb k n ≡ b → 0 < cond b 1 0 → k < n
-    by true e p = Rattle.std.proofs.lemmas.Bool.ltb-true k n e
-    by false e p = absurd (omega arith)
+use Rattle.psac_readers.proofs.Links.{none_if, none_if_both, each_imp, each_append, each_tail, sum_under, new_named, new_linked, new_deads, linked_named, follows_else, each_named, knows_set, is_there, mods_forget}
 
 module _ (links mods : ℕ) (words : List ℕ) (views : List ReadersView) (h : Readable links mods words views) (id : ℕ) (v : ReadersView) (at : get_elem? views id ≡ some v) where
   pub same_rights : (w : ReadersView) → rights_of w ≡ rights_of v → Divided ways (map rights_of (set views id w))
@@ -29,7 +22,7 @@ module _ (links mods : ℕ) (words : List ℕ) (views : List ReadersView) (h : R
   single l = let a = held l in let b = at_most_once l links in omega (arith, a, b)
 
   pub inside : (l : ℕ) → 0 < sum_by (named l) v.links → l < links
-  inside l p = let a = held l in let b = sum_at (λ (u : ReadersView). sum_by (named l) u.links) views id v at in once_or l links (omega (arith, a, b, p))
+  inside l p = let a = held l in let b = sum_at (λ (u : ReadersView). sum_by (named l) u.links) views id v at in slot_below l links (omega (arith, a, b, p))
 
   pub elsewhere : (l : ℕ) → 0 < sum_by (named l) v.links → (j : ℕ) (u : ReadersView) → j ≢ id → get_elem? views j ≡ some u → sum_by (named l) u.links ≡ 0
   elsewhere l p j u n e = let a = sum_two (λ (z : ReadersView). sum_by (named l) z.links) views j id u v n e at in let b = single l in omega (arith, a, b, p)
@@ -51,6 +44,50 @@ module _ (links mods : ℕ) (words : List ℕ) (views : List ReadersView) (h : R
       → (j : ℕ) (u : ReadersView) → j ≢ id → get_elem? views j ≡ some u → Tells links mods (set words i x) h.sets.next h.sets.chain u
   others_stay i x f j u n e = let t = h.sets.tells j u e in record { mods_is = t.mods_is; known = f j u n e t.known; placed = t.placed; whole = t.whole; seen = t.seen; gone = t.gone }
 
+  -- what is known of links stays, where the word is no link's next or node
+  pub known_far : (i x : ℕ) → ((l : ℕ) → (i ≢ next_at links mods l) × (i ≢ node_at links mods l)) → (ks : List LinkView) → Each (Knows links mods words h.sets.next) ks → Each (Knows links mods (set words i x) h.sets.next) ks
+  known_far i x far = each_imp (Knows links mods words h.sets.next) (Knows links mods (set words i x) h.sets.next) (λ k p. let f = far k.link in knows_set links mods words h.sets.next h.sets.next i x k f.0 f.1 refl p)
+
+  -- one view changes, and one word that is no set's head, and the sets stay
+  pub stored_at : (w : ReadersView) (i x c front : ℕ) (list : List Handle) → ((m : ℕ) → m < mods → head_at links m ≢ i)
+      → claiming.Claimed links c front list (set words i x) (map claims_of (set views id w)) → rights_of w ≡ rights_of v
+      → ((l : ℕ) → l < links → get_elem? (set words i x) (dead_at links mods l) ≡ some (sum_by (λ (u : ReadersView). sum_by (deads l) u.links) (set views id w)))
+      → ((m l : ℕ) → sum_by (linked m l) w.links ≡ sum_by (linked m l) v.links)
+      → ((l : ℕ) → sum_by (named l) w.links + handles.slot_times l v.claims.held ≡ sum_by (named l) v.links + handles.slot_times l w.claims.held)
+      → Tells links mods (set words i x) h.sets.next h.sets.chain w
+      → ((j : ℕ) (u : ReadersView) → j ≢ id → get_elem? views j ≡ some u → Each (Knows links mods words h.sets.next) u.links → Each (Knows links mods (set words i x) h.sets.next) u.links)
+      → Readable links mods (set words i x) (set views id w)
+  stored_at w i x c front list far claims rights stored linked_stay owed mine others = record {
+    counter = c;
+    head = front;
+    list = list;
+    claims = claims;
+    rights = same_rights w rights;
+    sets = record {
+      next = h.sets.next;
+      chain = h.sets.chain;
+      beyond = h.sets.beyond;
+      long = (let a = h.sets.long in let b = length-set words i x in omega (arith, a, b));
+      heads = λ m lt. let o = h.sets.heads m lt in (o.0, set_else words i (head_at links m) x (far m lt) ∙ o.1, o.2);
+      stored = stored;
+      counted = λ m l. let s = sum_set (λ (u : ReadersView). sum_by (linked m l) u.links) views id v w at in let a = linked_stay m l in let o = h.sets.counted m l in omega (arith, s, a, o);
+      owed = λ l. let s = sum_set (λ (u : ReadersView). sum_by (named l) u.links) views id v w at in let r = sum_set (λ (u : ReadersView). handles.slot_times l u.claims.held) views id v w at in
+          let a = owed l in let o = h.sets.owed l in omega (arith, s, r, a, o);
+      tells = all_set (λ _ u. Tells links mods (set words i x) h.sets.next h.sets.chain u) views id w mine (others_stay i x others);
+    };
+  }
+
+  -- and the word is no link's dead word either
+  pub beside_at : (w : ReadersView) (i x c front : ℕ) (list : List Handle) → ((m : ℕ) → m < mods → head_at links m ≢ i) → ((l : ℕ) → dead_at links mods l ≢ i)
+      → claiming.Claimed links c front list (set words i x) (map claims_of (set views id w)) → rights_of w ≡ rights_of v
+      → ((l : ℕ) → sum_by (deads l) w.links ≡ sum_by (deads l) v.links) → ((m l : ℕ) → sum_by (linked m l) w.links ≡ sum_by (linked m l) v.links)
+      → ((l : ℕ) → sum_by (named l) w.links + handles.slot_times l v.claims.held ≡ sum_by (named l) v.links + handles.slot_times l w.claims.held)
+      → Tells links mods (set words i x) h.sets.next h.sets.chain w
+      → ((j : ℕ) (u : ReadersView) → j ≢ id → get_elem? views j ≡ some u → Each (Knows links mods words h.sets.next) u.links → Each (Knows links mods (set words i x) h.sets.next) u.links)
+      → Readable links mods (set words i x) (set views id w)
+  beside_at w i x c front list far no_dead claims rights deads_stay = stored_at w i x c front list far claims rights
+      (λ l lt. set_else words i (dead_at links mods l) x (no_dead l) ∙ (h.sets.stored l lt ∙ ap some (let s = sum_set (λ (u : ReadersView). sum_by (deads l) u.links) views id v w at in let a = deads_stay l in omega (arith, s, a))))
+
   -- a claim
   pub draws_at : v.claims.live ≡ true → v.claims.over ≡ 0 → Readable links mods (set words 0 ((h.counter + 1) % 2 ^ 64)) (set views id (drew v h.counter))
   draws_at live none =
@@ -59,42 +96,24 @@ module _ (links mods : ℕ) (words : List ℕ) (views : List ReadersView) (h : R
       let w = drew v c in
       let es = claiming.entry v.claims.list c in
       let t = h.sets.tells id v at in
-      let know : (ks : List LinkView) → Each (Knows links mods words h.sets.next) ks → Each (Knows links mods (set words 0 x) h.sets.next) ks =
-      each_imp (Knows links mods words h.sets.next) (Knows links mods (set words 0 x) h.sets.next) (λ k p. knows_set links mods words h.sets.next h.sets.next 0 x k (λ q. absurd (omega (arith, q))) (λ q. absurd (omega (arith, q))) refl p) in
+      let know = known_far 0 x (λ l. ((λ q. absurd (omega (arith, q))), (λ q. absurd (omega (arith, q))))) in
+      let linked_stay : (m l : ℕ) → sum_by (linked m l) w.links ≡ sum_by (linked m l) v.links = λ m l. let a = sum_by-append (linked m l) (map new_link es) v.links in let b = new_linked m l es in omega (arith, a, b) in
+      beside_at w 0 x (suc c) h.head h.list (λ m lt q. absurd (omega (arith, q))) (λ l q. absurd (omega (arith, q)))
+      (subst (claiming.Claimed links (suc c) h.head h.list (set words 0 x)) (sym (map-set claims_of views id w)) (laws.draws_at links c h.head h.list words (map claims_of views) h.claims id v.claims (at_map claims_of views id v at) live none))
+      refl
+      (λ l. let a = sum_by-append (deads l) (map new_link es) v.links in let b = new_deads l es in omega (arith, a, b))
+      linked_stay
+      (λ l. let a = sum_by-append (named l) (map new_link es) v.links in let b = new_named l es in let q = sum_by-append (λ (y : Handle). cond (y.slot == l) 1 0) v.claims.held es in omega (arith, a, b, q))
       record {
-        counter = suc c;
-        head = h.head;
-        list = h.list;
-        claims = subst (claiming.Claimed links (suc c) h.head h.list (set words 0 x)) (sym (map-set claims_of views id w)) (laws.draws_at links c h.head h.list words (map claims_of views) h.claims id v.claims (at_map claims_of views id v at) live none);
-        rights = same_rights w refl;
-        sets = record {
-          next = h.sets.next;
-          chain = h.sets.chain;
-          beyond = h.sets.beyond;
-          long = (let a = h.sets.long in let b = length-set words 0 x in omega (arith, a, b));
-          heads = λ m lt. let o = h.sets.heads m lt in (o.0, set_else words 0 (head_at links m) x (λ q. absurd (omega (arith, q))) ∙ o.1, o.2);
-          stored = λ l lt. let s = sum_set (λ (u : ReadersView). sum_by (deads l) u.links) views id v w at in let a = sum_by-append (deads l) (map new_link es) v.links in let b = new_deads l es in
-              set_else words 0 (dead_at links mods l) x (λ q. absurd (omega (arith, q))) ∙ (h.sets.stored l lt ∙ ap some (omega (arith, s, a, b)));
-          counted = λ m l. let s = sum_set (λ (u : ReadersView). sum_by (linked m l) u.links) views id v w at in let a = sum_by-append (linked m l) (map new_link es) v.links in let b = new_linked m l es in let o = h.sets.counted m l in omega (arith, s, a, b, o);
-          owed = λ l. let s = sum_set (λ (u : ReadersView). sum_by (named l) u.links) views id v w at in let a = sum_by-append (named l) (map new_link es) v.links in let b = new_named l es in
-              let p = sum_set (λ (u : ReadersView). handles.slot_times l u.claims.held) views id v w at in let q = sum_by-append (λ (y : Handle). cond (y.slot == l) 1 0) v.claims.held es in
-              let o = h.sets.owed l in omega (arith, s, a, b, p, q, o);
-          tells = all_set (λ _ u. Tells links mods (set words 0 x) h.sets.next h.sets.chain u) views id w
-              record {
-                mods_is = t.mods_is;
-                known = each_append (Knows links mods (set words 0 x) h.sets.next) (map new_link es) v.links (fresh_known (set words 0 x) h.sets.next es) (know v.links t.known);
-                placed = each_append (Placed (mods_of v.walk) v.shared) (map new_link es) v.links (fresh_placed (mods_of v.walk) v.shared es) t.placed;
-                whole = λ m has l. let a = sum_by-append (linked m l) (map new_link es) v.links in let b = new_linked m l es in let o = t.whole m has l in omega (arith, a, b, o);
-                seen = t.seen;
-                gone = λ z. absurd (true≢false (sym live ∙ z));
-              }
-              (others_stay 0 x (λ j u n e p. know u.links p));
-        };
+        mods_is = t.mods_is;
+        known = each_append (Knows links mods (set words 0 x) h.sets.next) (map new_link es) v.links (fresh_known (set words 0 x) h.sets.next es) (know v.links t.known);
+        placed = each_append (Placed (mods_of v.walk) v.shared) (map new_link es) v.links (fresh_placed (mods_of v.walk) v.shared es) t.placed;
+        whole = λ m has l. linked_stay m l ∙ t.whole m has l;
+        seen = t.seen;
+        gone = λ z. absurd (true≢false (sym live ∙ z));
       }
+      (λ j u n e p. know u.links p)
     where
-      none_some : (a : ℕ) → ◌≡◌ {A = Option ℕ} None (Some a) → ⊥
-      none_some a e = absurd (cc)
-
       fresh_known : (ws : List ℕ) (next : ℕ → ℕ) (hs : List Handle) → Each (Knows links mods ws next) (map new_link hs)
       fresh_known ws next [] = tt
       fresh_known ws next (y ∷ ys) = ((tt, λ x e. absurd (none_some x e)), fresh_known ws next ys)
@@ -127,8 +146,8 @@ module _ (links mods : ℕ) (words : List ℕ) (views : List ReadersView) (h : R
     owed_stays l = let s = sum_set (λ (u : ReadersView). sum_by (named l) u.links) views id v w at in let p = sum_set (λ (u : ReadersView). handles.slot_times l u.claims.held) views id v w at in
         let a = cons_v (named l) in let b = cons_w (named l) in let c = same_named l in let o = h.sets.owed l in let d = ap (λ (c : ClaimView). handles.slot_times l c.held) cw in omega (arith, s, p, a, b, c, o, d)
 
-    sum_stays : (g : LinkView → ℕ) → g k' ≡ g k → sum_by (λ (u : ReadersView). sum_by g u.links) (set views id w) ≡ sum_by (λ (u : ReadersView). sum_by g u.links) views
-    sum_stays g e = let s = sum_set (λ (u : ReadersView). sum_by g u.links) views id v w at in let a = cons_v g in let b = cons_w g in omega (arith, s, a, b, e)
+    sum_stays : (g : LinkView → ℕ) → g k' ≡ g k → sum_by g w.links ≡ sum_by g v.links
+    sum_stays g e = let a = cons_v g in let b = cons_w g in omega (arith, a, b, e)
 
     -- a store to its next or node
     pub own_store : w.walk ≡ v.walk → w.shared ≡ v.shared → w.mods ≡ v.mods → (i x : ℕ) → links + mods < i → ((l : ℕ) → i ≢ dead_at links mods l) → ((l : ℕ) → l ≢ k.link → (i ≢ next_at links mods l) × (i ≢ node_at links mods l))
@@ -140,34 +159,20 @@ module _ (links mods : ℕ) (words : List ℕ) (views : List ReadersView) (h : R
         each_named (Knows links mods words h.sets.next) (Knows links mods (set words i x) h.sets.next) k.link (λ y n p. let a = apart y.link n in knows_set links mods words h.sets.next h.sets.next i x y a.0 a.1 refl p) in
         let known = each_tail (Knows links mods words h.sets.next) k v.links ks lv t.known in
         let placed = each_tail (Placed (mods_of v.walk) v.shared) k v.links ks lv t.placed in
+        beside_at w i x h.counter h.head h.list (λ m lt q. absurd (omega (arith, q, far, lt))) (λ l q. no_dead l (sym q)) (same_claims w cw i x (omega (arith, far)))
+        (λ j. record { live = (cw j).live; branch = (cw j).branch; alone = mods_of (ew j); shared = es j })
+        (λ l. sum_stays (deads l) (same_deads l)) (λ m l. sum_stays (linked m l) (same_linked m l))
+        (λ l. let a = sum_stays (named l) (same_named l) in let b = ap (λ (c : ClaimView). handles.slot_times l c.held) cw in omega (arith, a, b))
         record {
-          counter = h.counter;
-          head = h.head;
-          list = h.list;
-          claims = same_claims w cw i x (omega (arith, far));
-          rights = same_rights w (λ j. record { live = (cw j).live; branch = (cw j).branch; alone = mods_of (ew j); shared = es j });
-          sets = record {
-            next = h.sets.next;
-            chain = h.sets.chain;
-            beyond = h.sets.beyond;
-            long = (let a = h.sets.long in let b = length-set words i x in omega (arith, a, b));
-            heads = λ m lt. let o = h.sets.heads m lt in (o.0, set_else words i (head_at links m) x (λ q. absurd (omega (arith, q, far, lt))) ∙ o.1, o.2);
-            stored = λ l lt. set_else words i (dead_at links mods l) x (λ q. no_dead l (sym q)) ∙ (h.sets.stored l lt ∙ ap some (sym (sum_stays (deads l) (same_deads l))));
-            counted = λ m l. sum_stays (linked m l) (same_linked m l) ∙ h.sets.counted m l;
-            owed = owed_stays;
-            tells = all_set (λ _ u. Tells links mods (set words i x) h.sets.next h.sets.chain u) views id w
-                record {
-                  mods_is = λ l. em ∙ t.mods_is (ap (λ (c : ClaimView). c.live) (sym cw) ∙ l);
-                  known = subst (Each (Knows links mods (set words i x) h.sets.next)) (sym lw) (knows known.0, else_known ks none_behind known.1);
-                  placed = (λ (q : Each (Placed (mods_of v.walk) v.shared) (k' ∷ ks)). subst (λ (z : List WalkView × List SharedView × List LinkView). Each (Placed (mods_of z.0) z.1) z.2) (λ j. (sym ew j, sym es j, sym lw j)) q)
-                      ((λ e. subst (λ o. Member o (mods_of v.walk) ⊎ ((f : SharedView) × Member f v.shared × (f.of ≡ o))) (sym same_of) (placed.0 (sym same_in ∙ e))), placed.1);
-                  whole = λ m has l. let a = cons_v (linked m l) in let b = cons_w (linked m l) in let c = same_linked m l in let o = t.whole m (subst (λ z. Member m (mods_of z)) ew has) l in omega (arith, a, b, c, o);
-                  seen = subst (Each (Seen h.sets.chain)) (sym ew) t.seen;
-                  gone = λ z. let e = ap length (sym lv ∙ t.gone (ap (λ (c : ClaimView). c.live) (sym cw) ∙ z)) in absurd (omega (arith, e));
-                }
-                (others_stay i x (λ j u n e p. else_known u.links (elsewhere k.link there j u n e) p));
-          };
+          mods_is = λ l. em ∙ t.mods_is (ap (λ (c : ClaimView). c.live) (sym cw) ∙ l);
+          known = subst (Each (Knows links mods (set words i x) h.sets.next)) (sym lw) (knows known.0, else_known ks none_behind known.1);
+          placed = (λ (q : Each (Placed (mods_of v.walk) v.shared) (k' ∷ ks)). subst (λ (z : List WalkView × List SharedView × List LinkView). Each (Placed (mods_of z.0) z.1) z.2) (λ j. (sym ew j, sym es j, sym lw j)) q)
+              ((λ e. subst (λ o. Member o (mods_of v.walk) ⊎ ((f : SharedView) × Member f v.shared × (f.of ≡ o))) (sym same_of) (placed.0 (sym same_in ∙ e))), placed.1);
+          whole = λ m has l. sum_stays (linked m l) (same_linked m l) ∙ t.whole m (subst (λ z. Member m (mods_of z)) ew has) l;
+          seen = subst (Each (Seen h.sets.chain)) (sym ew) t.seen;
+          gone = λ z. let e = ap length (sym lv ∙ t.gone (ap (λ (c : ClaimView). c.live) (sym cw) ∙ z)) in absurd (omega (arith, e));
         }
+        (λ j u n e p. else_known u.links (elsewhere k.link there j u n e) p)
 
 -- the swap of a head
 module _ (links mods : ℕ) (words : List ℕ) (views : List ReadersView) (h : Readable links mods words views) (id : ℕ) (v : ReadersView) (at : get_elem? views id ≡ some v) (k : LinkView) (ks : List LinkView) (lv : v.links ≡ k ∷ ks) (fresh : k.stage ≡ Claimed) (m : ℕ) (small : m < mods) (has : Has m v) where
@@ -194,12 +199,11 @@ module _ (links mods : ℕ) (words : List ℕ) (views : List ReadersView) (h : R
       let one : named l k ≡ 1 = one_here links mods words views h id v at k k' ks lv w lw refl (λ _. refl) in
       let mine = there links mods words views h id v at k k' ks lv w lw refl (λ _. refl) in
       let alone = none_behind links mods words views h id v at k k' ks lv w lw refl (λ _. refl) in
-      let all_one = single links mods words views h id v at l in
       let t = h.sets.tells id v at in
-      let was : (y x : ℕ) → linked y x k ≡ 0 = λ y x. ap (λ s. cond (k.link == x) (cond (k.of == y) (in_set s) 0) 0) fresh ∙ none_both (k.link == x) (k.of == y) in
+      let was : (y x : ℕ) → linked y x k ≡ 0 = λ y x. ap (λ s. cond (k.link == x) (cond (k.of == y) (in_set s) 0) 0) fresh ∙ none_if_both (k.link == x) (k.of == y) in
       let now_m : linked m l k' ≡ 1 = ap {B = ℕ} (λ b. cond b (cond (m == m) 1 0) 0) (eq-eqb l l refl) ∙ ap {B = ℕ} (λ b. cond b 1 0) (eq-eqb m m refl) in
       let now_x : (y x : ℕ) → x ≢ l → linked y x k' ≡ 0 = λ y x q. ap {B = ℕ} (λ b. cond b (cond (m == y) 1 0) 0) (ne_eqb l x (λ e. q (sym e))) in
-      let now_y : (y x : ℕ) → y ≢ m → linked y x k' ≡ 0 = λ y x q. ap {B = ℕ} (λ b. cond (l == x) (cond b 1 0) 0) (ne_eqb m y (λ e. q (sym e))) ∙ none_one (l == x) in
+      let now_y : (y x : ℕ) → y ≢ m → linked y x k' ≡ 0 = λ y x q. ap {B = ℕ} (λ b. cond (l == x) (cond b 1 0) 0) (ne_eqb m y (λ e. q (sym e))) ∙ none_if (l == x) in
       let out : (y : ℕ) → times l (chain y) ≡ 0 = λ y.
       let a = sum_set (λ (u : ReadersView). sum_by (linked y l) u.links) views id v w at in
       let b = vs (linked y l) in
@@ -234,7 +238,7 @@ module _ (links mods : ℕ) (words : List ℕ) (views : List ReadersView) (h : R
               (cases_eq y m);
           stored = λ x lt. set_else words i (dead_at links mods x) (suc l) (λ z. absurd (omega (arith, z, small))) ∙ (h.sets.stored x lt ∙ ap some
               (let s = sum_set (λ (u : ReadersView). sum_by (deads x) u.links) views id v w at in let a = vs (deads x) in let b = ws (deads x) in
-              let c : deads x k ≡ 0 = ap (λ s. cond (k.link == x) (is_dead s) 0) fresh ∙ none_one (k.link == x) in let d : deads x k' ≡ 0 = none_one (k.link == x) in omega (arith, s, a, b, c, d)));
+              let c : deads x k ≡ 0 = ap (λ s. cond (k.link == x) (is_dead s) 0) fresh ∙ none_if (k.link == x) in let d : deads x k' ≡ 0 = none_if (k.link == x) in omega (arith, s, a, b, c, d)));
           counted = λ y x. let s = sum_set (λ (u : ReadersView). sum_by (linked y x) u.links) views id v w at in let a = vs (linked y x) in let b = ws (linked y x) in let c = was y x in let o = h.sets.counted y x in
               let d = grown m l y x k' (λ ey ex. ap {B = ℕ} (λ (p : ℕ × ℕ). linked p.0 p.1 k') (λ i. (ey i, ex i)) ∙ now_m) (now_x y x) (now_y y x) chain in omega (arith, s, a, b, c, o, d);
           owed = owed_stays links mods words views h id v at k k' ks lv w lw refl (λ _. refl);
@@ -260,14 +264,6 @@ module _ (links mods : ℕ) (words : List ℕ) (views : List ReadersView) (h : R
         };
       }
     where
-      none_one : (b : Bool) → ◌≡◌ {A = ℕ} (cond b 0 0) 0
-      none_one true = refl
-      none_one false = refl
-
-      none_both : (a b : Bool) → ◌≡◌ {A = ℕ} (cond a (cond b 0 0) 0) 0
-      none_both true b = none_one b
-      none_both false b = refl
-
       -- where a link is named in one view, what the others have of it in a set is nothing
       rest_none : (us : List ReadersView) (y l id : ℕ) (v : ReadersView) → get_elem? us id ≡ some v → sum_by (λ (u : ReadersView). sum_by (named l) u.links) us ≤ 1 → 0 < sum_by (named l) v.links → sum_by (λ (u : ReadersView). sum_by (linked y l) u.links) us ≤ sum_by (linked y l) v.links
       rest_none [] y l id v e o p = absurd (some-ne-none v (sym e))
@@ -288,9 +284,6 @@ module _ (links mods : ℕ) (words : List ℕ) (views : List ReadersView) (h : R
           (cases_eq x l))
           (λ (n : y ≢ m). let p = ap (λ b. times x (cond b (l ∷ chain m) (chain y))) (ne_eqb y m n) in let q = ny n in omega (arith, p, q))
           (cases_eq y m)
-
-      none_some : (ls : List ℕ) → ◌≡◌ {A = Option (List ℕ)} None (Some ls) → ⊥
-      none_some a e = absurd (cc)
 
       forget_one : (chain chain' : ℕ → List ℕ) (m : ℕ) → ((y : ℕ) → y ≢ m → chain' y ≡ chain y) → (e : WalkView) → Seen chain e → (b : Bool) → (e.of == m) ≡ b → (ls : List ℕ) → cond b None e.chain ≡ Some ls → chain' e.of ≡ ls
       forget_one chain chain' m same e s true is ls q = absurd (none_some ls q)

@@ -1,19 +1,13 @@
 -- What the rule of reader sets gives.
 use Rattle.std.proofs.Common.{◌≡◌, ◌≢◌, ℕ, ◌≤◌, List, [], ◌∷◌, map, sym, ap, ◌∙◌, subst, ⊎_elim, arith}
-use Rattle.psac_readers.proofs.Terms.{sum_by, cases_eq, some, some-injective, get_elem?, at_map, ClaimView, Member, at_most_once, sum_at, sum_two, Stage, Claimed, UnderWay, In, Dead, LinkView, ReadersView, next_at, named, linked, deads, Each, claims_of, rights_of, Staged, Readable, is_settled, Promised}
+use Rattle.psac_readers.proofs.Terms.{sum_map, sum_by, cases_eq, some-injective, get_elem?, at_map, ClaimView, Member, at_most_once, sum_at, sum_two, LinkView, ReadersView, named, linked, deads, Each, claims_of, rights_of, Staged, Readable, Promised}
 use Rattle.psac_slots.specs.Handles as handles
 use Rattle.psac_slots.proofs.Kept as slots
-use Rattle.psac_readers.proofs.Links.{sum_map, sum_under, linked_named, alive_deads}
+use Rattle.psac_readers.proofs.Links.{stage_word, sum_under, linked_named, alive_deads}
 
 each_member : {A : Type 0} (P : A → Type 0) (x : A) (xs : List A) → Each P xs → Member x xs → P x
 each_member P x [] h m = absurd m
 each_member P x (y ∷ ys) h m = ⊎_elim (λ e. subst P e h.0) (λ r. each_member P x ys h.1 r) m
-
-settled_next : (links mods : ℕ) (words : List ℕ) (next : ℕ → ℕ) (l : ℕ) (s : Stage) → is_settled s ≡ 1 → Staged links mods words next l s → get_elem? words (next_at links mods l) ≡ some (next l)
-settled_next links mods words next l Claimed e p = absurd (omega (arith, e))
-settled_next links mods words next l (UnderWay n) e p = absurd (omega (arith, e))
-settled_next links mods words next l In e p = p
-settled_next links mods words next l Dead e p = p
 
 pub promised : (links mods : ℕ) (words : List ℕ) (views : List ReadersView) → Readable links mods words views → Promised links mods words views
 promised links mods words views h =
@@ -29,7 +23,7 @@ promised links mods words views h =
           omega (arith, a, h.sets.owed l, sum_map claims_of (λ (c : ClaimView). handles.slot_times l c.held) views, n);
       next = h.sets.next;
       chain = h.sets.chain;
-      stored_next = λ i v k e m s. settled_next links mods words h.sets.next k.link k.stage s (each_member _ k v.links (h.sets.tells i v e).known m).0;
+      stored_next = λ i v k e m s. stage_word links mods words h.sets.next k.link k.stage (omega (arith, s)) (each_member _ k v.links (h.sets.tells i v e).known m).0;
       kept_next = λ i v k n e m s. subst (Staged links mods words h.sets.next k.link) s (each_member _ k v.links (h.sets.tells i v e).known m).0;
       from_head = h.sets.heads;
       once = λ m l. let a = h.sets.counted m l in let b = few (λ x. linked m x) (λ x k. linked_named m x k) l in omega (arith, a, b);

@@ -1,7 +1,8 @@
 -- Lists of links, and chains.
-use Rattle.std.proofs.Common.{◌≡◌, ◌≢◌, ◌⊎◌, ℕ, zero, suc, ◌+◌, ◌<◌, ◌≤◌, List, [], ◌∷◌, ◌++◌, map, length, set, Bool, true, false, cond, refl, sym, ap, ◌∙◌, subst, inl, inr, ⊎_elim, arith, Option, Some}
-use Rattle.psac_readers.proofs.Terms.{sum_by, filter, not, ◌==◌, slice_index, sum_by-cons, eq-eqb, eqb-true, ne_eqb, cases_eq, some, some-ne-none, some-injective, get_elem?, set_else, Handle, sum_le, sum_two, Stage, Claimed, UnderWay, In, Dead, LinkView, WalkView, SharedView, Follows, in_set, is_live, is_dead, named, linked, alive, deads, times, Each, mods_of, next_at, node_at, Staged, Knows, Placed, Seen, new_link, forget, die, dying, learn, front, behind, settled, is_settled, node_in, chain_of}
+use Rattle.std.proofs.Common.{◌≡◌, ◌≢◌, ◌⊎◌, ℕ, zero, suc, ◌+◌, ◌<◌, ◌≤◌, List, [], ◌∷◌, ◌++◌, map, length, set, Bool, true, false, true≢false, cond, refl, sym, ap, ◌∙◌, subst, ⊎_elim, arith, Option, Some}
+use Rattle.psac_readers.proofs.Terms.{at_less, slice_at, sum_by, filter, not, ◌==◌, slice_index, sum_by-cons, eq-eqb, eqb-true, cases_eq, some, some-ne-none, some-injective, get_elem?, set_else, Handle, sum_le, sum_none, sum_two, same_some, Stage, Claimed, UnderWay, In, Dead, LinkView, WalkView, Follows, in_set, is_live, is_dead, named, linked, alive, deads, times, Each, mods_of, next_at, node_at, Staged, Knows, Seen, new_link, forget, learn, front, behind, settled, is_settled, Fine, node_in, chain_of}
 use Rattle.psac_slots.specs.Handles as handles
+pub use Rattle.psac_slots.proofs.Tables.{sum_map}
 
 module _ {A : Type 0} where
   pub each_imp : (P Q : A → Type 0) → ((x : A) → P x → Q x) → (xs : List A) → Each P xs → Each Q xs
@@ -71,10 +72,6 @@ module _ {A : Type 0} where
   each_zero P f p [] h = refl
   each_zero P f p (x ∷ xs) h = omega (arith, sum_by-cons f x xs, p x h.0, each_zero P f p xs h.1)
 
-  pub sum_none : (f : A → ℕ) (xs : List A) → ((j : ℕ) (u : A) → get_elem? xs j ≡ some u → f u ≡ 0) → sum_by f xs ≡ 0
-  sum_none f [] h = refl
-  sum_none f (x ∷ xs) h = omega (arith, sum_by-cons f x xs, h 0 x refl, sum_none f xs (λ j u e. h (suc j) u e))
-
   -- where all others have nothing
   pub sum_only : (f : A → ℕ) (xs : List A) (id : ℕ) (v : A) → get_elem? xs id ≡ some v → ((j : ℕ) (u : A) → j ≢ id → get_elem? xs j ≡ some u → f u ≡ 0) → sum_by f xs ≡ f v
   sum_only f [] id v e h = absurd (some-ne-none v (sym e))
@@ -85,17 +82,71 @@ module _ {A : Type 0} where
   pub only_here : (g f : A → ℕ) → ((x : A) → g x ≤ f x) → (xs : List A) (id : ℕ) (v : A) → get_elem? xs id ≡ some v → sum_by f xs ≤ 1 → 0 < f v → sum_by g xs ≡ g v
   only_here g f le xs id v e one p = sum_only g xs id v e (λ j u n d. let a = sum_two f xs id j v u (λ q. n (sym q)) e d in let b = le u in omega (arith, a, b, one, p))
 
-pub sum_map : {A B : Type 0} (g : A → B) (f : B → ℕ) (xs : List A) → sum_by f (map g xs) ≡ sum_by (λ x. f (g x)) xs
-sum_map g f [] = refl
-sum_map g f (x ∷ xs) = omega (arith, sum_by-cons f (g x) (map g xs), sum_by-cons (λ y. f (g y)) x xs, sum_map g f xs)
-
-none_if : (b : Bool) → ◌≡◌ {A = ℕ} (cond b 0 0) 0
+pub none_if : (b : Bool) → ◌≡◌ {A = ℕ} (cond b 0 0) 0
 none_if true = refl
 none_if false = refl
 
-none_if_both : (a b : Bool) → ◌≡◌ {A = ℕ} (cond a (cond b 0 0) 0) 0
+pub none_if_both : (a b : Bool) → ◌≡◌ {A = ℕ} (cond a (cond b 0 0) 0) 0
 none_if_both true b = none_if b
 none_if_both false b = refl
+
+pub on_then : (b : Bool) → not b ≡ false → b ≡ true
+on_then true e = refl
+on_then false e = absurd (true≢false e)
+
+pub if_less : (b : Bool) (n m : ℕ) → n ≤ m → cond b n 0 ≤ cond b m 0
+if_less true n m l = l
+if_less false n m l = omega arith
+
+pub if_low : (b : Bool) (n m : ℕ) → n ≤ m → cond b n 0 ≤ m
+if_low true n m l = l
+if_low false n m l = omega arith
+
+pub if_two : (b : Bool) (n m k : ℕ) → n + m ≤ k → cond b n 0 + cond b m 0 ≤ cond b k 0
+if_two true n m k l = l
+if_two false n m k l = omega arith
+
+-- what holds of each stage
+pub each_stage : (P : Stage → Type 0) → P Claimed → ((n : ℕ) → P (UnderWay n)) → P In → P Dead → (s : Stage) → P s
+each_stage P c u i d Claimed = c
+each_stage P c u i d (UnderWay n) = u n
+each_stage P c u i d In = i
+each_stage P c u i d Dead = d
+
+pub in_low : (s : Stage) → in_set s ≤ 1
+in_low = each_stage (λ s. in_set s ≤ 1) (omega arith) (λ n. omega arith) (omega arith) (omega arith)
+
+pub live_low : (s : Stage) → is_live s ≤ 1
+live_low = each_stage (λ s. is_live s ≤ 1) (omega arith) (λ n. omega arith) (omega arith) (omega arith)
+
+-- the stage of the link l becomes another one
+abbrev pub restaged : (Stage → Stage) → ℕ → LinkView → LinkView
+restaged g l k = record k { stage = cond (k.link == l) (g k.stage) k.stage }
+
+-- what holds of a stage and of itself, and of a stage and what becomes of it
+pub stage_if : (g : Stage → Stage) (P : Stage → Stage → Type 0) → ((s : Stage) → P s s) → ((s : Stage) → P s (g s)) → (b : Bool) (s : Stage) → P s (cond b (g s) s)
+stage_if g P same new true s = new s
+stage_if g P same new false s = same s
+
+-- it stands in a set where it stood in one
+pub in_same : (g : Stage → Stage) → ((s : Stage) → in_set (g s) ≡ in_set s) → (b : Bool) (s : Stage) → in_set (cond b (g s) s) ≡ in_set s
+in_same g same = stage_if g (λ s t. in_set t ≡ in_set s) (λ s. refl) same
+
+pub linked_same : (g : Stage → Stage) → ((s : Stage) → in_set (g s) ≡ in_set s) → (l m x : ℕ) (k : LinkView) → linked m x (restaged g l k) ≡ linked m x k
+linked_same g same l m x k = ap (λ (n : ℕ). cond (k.link == x) (cond (k.of == m) n 0) 0) (in_same g same (k.link == l) k.stage)
+
+-- a settled link stays one
+pub restaged_fine : (g : Stage → Stage) → ((s : Stage) → is_settled s ≡ 1 → is_settled (g s) ≡ 1) → (n l : ℕ) (k : LinkView) → Fine n k → Fine n (restaged g l k)
+restaged_fine g f n l k p = record { low = p.low; settled = stage_if g (λ s t. is_settled s ≡ 1 → is_settled t ≡ 1) (λ s e. e) f (k.link == l) k.stage p.settled; node = p.node }
+
+-- and another link's stage stays
+pub stage_else : (g : Stage → Stage) (f : Stage → ℕ) (l x : ℕ) (k : LinkView) → x ≢ l → cond (k.link == x) (f (restaged g l k).stage) 0 ≡ cond (k.link == x) (f k.stage) 0
+stage_else g f l x k n = by (k.link == l) (k.link == x) refl refl
+  where
+    by : (a b : Bool) → (k.link == l) ≡ a → (k.link == x) ≡ b → cond b (f (cond a (g k.stage) k.stage)) 0 ≡ cond b (f k.stage) 0
+    by true true e d = absurd (n (sym (eqb-true k.link x d) ∙ eqb-true k.link l e))
+    by true false e d = refl
+    by false b e d = refl
 
 pub new_named : (l : ℕ) (hs : List Handle) → sum_by (named l) (map new_link hs) ≡ handles.slot_times l hs
 new_named l hs = sum_map new_link (named l) hs
@@ -107,49 +158,10 @@ pub new_deads : (l : ℕ) (hs : List Handle) → sum_by (deads l) (map new_link 
 new_deads l hs = sum_map new_link (deads l) hs ∙ sum_zero (λ h. deads l (new_link h)) hs (λ h. none_if (h.slot == l))
 
 pub linked_named : (m l : ℕ) (k : LinkView) → linked m l k ≤ named l k
-linked_named m l k = by (k.link == l) (k.of == m) k.stage
-  where
-    by : (a b : Bool) (s : Stage) → cond a (cond b (in_set s) 0) 0 ≤ cond a 1 0
-    by true true Claimed = omega arith
-    by true true (UnderWay n) = omega arith
-    by true true In = omega arith
-    by true true Dead = omega arith
-    by true false s = omega arith
-    by false b s = omega arith
+linked_named m l k = if_less (k.link == l) (cond (k.of == m) (in_set k.stage) 0) 1 (if_low (k.of == m) (in_set k.stage) 1 (in_low k.stage))
 
 pub alive_deads : (l : ℕ) (k : LinkView) → alive l k + deads l k ≤ named l k
-alive_deads l k = by (k.link == l) k.stage
-  where
-    by : (a : Bool) (s : Stage) → cond a (is_live s) 0 + cond a (is_dead s) 0 ≤ cond a 1 0
-    by true Claimed = omega arith
-    by true (UnderWay n) = omega arith
-    by true In = omega arith
-    by true Dead = omega arith
-    by false s = omega arith
-
-pub die_deads : (l k : ℕ) (x : LinkView) → deads k (die l x) ≡ deads k x + cond (l == k) (alive l x) 0
-die_deads l k x = by (x.link == l) refl x.stage (cases_eq l k)
-  where
-    by : (a : Bool) → (x.link == l) ≡ a → (s : Stage) → (l ≡ k) ⊎ (l ≢ k) → cond (x.link == k) (is_dead (cond a (dying s) s)) 0 ≡ cond (x.link == k) (is_dead s) 0 + cond (l == k) (cond a (is_live s) 0) 0
-    by false ea s h = let z = none_if (l == k) in omega (arith, z)
-    by true ea s (inl e) = let p = eq-eqb x.link k (eqb-true x.link l ea ∙ e) in let q = eq-eqb l k e in rw (p, q) (stage s)
-      where
-        stage : (s : Stage) → is_dead (dying s) ≡ is_dead s + is_live s
-        stage Claimed = refl
-        stage (UnderWay n) = refl
-        stage In = refl
-        stage Dead = refl
-    by true ea s (inr n) = let p = ne_eqb x.link k (λ e. n (sym (eqb-true x.link l ea) ∙ e)) in let q = ne_eqb l k n in rw (p, q) refl
-
-die_stage : (s : Stage) (a : Bool) → in_set (cond a (dying s) s) ≡ in_set s
-die_stage Claimed true = refl
-die_stage (UnderWay n) true = refl
-die_stage In true = refl
-die_stage Dead true = refl
-die_stage s false = refl
-
-pub die_linked : (l m k : ℕ) (x : LinkView) → linked m k (die l x) ≡ linked m k x
-die_linked l m k x = ap (λ (n : ℕ). cond (x.link == k) (cond (x.of == m) n 0) 0) (die_stage x.stage (x.link == l))
+alive_deads l k = if_two (k.link == l) (is_live k.stage) (is_dead k.stage) 1 (each_stage (λ s. is_live s + is_dead s ≤ 1) (omega arith) (λ n. omega arith) (omega arith) (omega arith) k.stage)
 
 -- another next at a link that isn't in the chain
 pub follows_else : (next other : ℕ → ℕ) (l : ℕ) (w : ℕ) (ls : List ℕ) → times l ls ≡ 0 → ((x : ℕ) → x ≢ l → other x ≡ next x) → Follows next w ls → Follows other w ls
@@ -167,7 +179,7 @@ each_named P Q l f (k ∷ ks) none h =
     (f k apart h.0, each_named P Q l f ks (omega (arith, a, none)) h.1)
 
 module _ (links mods : ℕ) (words : List ℕ) where
-  staged_set : (next other : ℕ → ℕ) (i w l : ℕ) → i ≢ next_at links mods l → other l ≡ next l → (s : Stage) → Staged links mods words next l s → Staged links mods (set words i w) other l s
+  pub staged_set : (next other : ℕ → ℕ) (i w l : ℕ) → i ≢ next_at links mods l → other l ≡ next l → (s : Stage) → Staged links mods words next l s → Staged links mods (set words i w) other l s
   staged_set next other i w l n e Claimed h = tt
   staged_set next other i w l n e (UnderWay o) h = e ∙ h
   staged_set next other i w l n e In h = set_else words i (next_at links mods l) w (λ q. n (sym q)) ∙ (h ∙ ap some (sym e))
@@ -177,9 +189,7 @@ module _ (links mods : ℕ) (words : List ℕ) where
   knows_set next other i w k n o e h = (staged_set next other i w k.link n e k.stage h.0, λ x is. set_else words i (node_at links mods k.link) w (λ q. o (sym q)) ∙ h.1 x is)
 
 pub is_there : (words : List ℕ) (i w : ℕ) → get_elem? words i ≡ some w → (i < length words) × (slice_index words i ≡ w)
-is_there [] i w e = absurd (some-ne-none w (sym e))
-is_there (x ∷ xs) zero w e = (omega arith, some-injective x w e)
-is_there (x ∷ xs) (suc i) w e = let r = is_there xs i w e in (let l = r.0 in omega (arith, l), r.1)
+is_there words i w e = (at_less words i w e, slice_at words i w e)
 
 -- the modifiables of a walk stay
 pub mods_forget : (m : ℕ) (es : List WalkView) → mods_of (map (forget m) es) ≡ mods_of es
@@ -212,7 +222,7 @@ behind_is next w l [] f p = absurd (omega arith)
 behind_is next w l (x ∷ xs) f p = behind_one next l x xs f.1 (λ q. behind_is next (next x) l xs f.1 q) p (x == l) refl
 
 module _ (links mods : ℕ) (words : List ℕ) (next : ℕ → ℕ) where
-  stage_word : (l : ℕ) (s : Stage) → 0 < is_settled s → Staged links mods words next l s → get_elem? words (next_at links mods l) ≡ some (next l)
+  pub stage_word : (l : ℕ) (s : Stage) → 0 < is_settled s → Staged links mods words next l s → get_elem? words (next_at links mods l) ≡ some (next l)
   stage_word l Claimed p h = absurd (omega arith)
   stage_word l (UnderWay n) p h = absurd (omega arith)
   stage_word l In p h = h
@@ -222,16 +232,12 @@ module _ (links mods : ℕ) (words : List ℕ) (next : ℕ → ℕ) where
   settled_one l k h true is p = subst (λ x. get_elem? words (next_at links mods x) ≡ some (next x)) (eqb-true k.link l is) (stage_word k.link k.stage p h.0)
   settled_one l k h false is p = absurd (omega (arith, p))
 
-  zero_or : (n : ℕ) → (n ≡ 0) ⊎ (0 < n)
-  zero_or zero = inl refl
-  zero_or (suc n) = inr (omega arith)
-
   pub next_word : (l : ℕ) (ks : List LinkView) → Each (Knows links mods words next) ks → 0 < sum_by (settled l) ks → get_elem? words (next_at links mods l) ≡ some (next l)
   next_word l [] h p = absurd (omega (arith, p))
   next_word l (k ∷ ks) h p = ⊎_elim
       (λ (z : settled l k ≡ 0). next_word l ks h.1 (omega (arith, sum_by-cons (settled l) k ks, p, z)))
-      (λ q. settled_one l k h.0 (k.link == l) refl q)
-      (zero_or (settled l k))
+      (λ (n : settled l k ≢ 0). settled_one l k h.0 (k.link == l) refl (omega (arith, n)))
+      (cases_eq (settled l k) 0)
 
   node_one : (l x : ℕ) (k : LinkView) (more : Option ℕ) → Knows links mods words next k → (more ≡ Some x → get_elem? words (node_at links mods l) ≡ some x) → (b : Bool) → (k.link == l) ≡ b → cond b k.node more ≡ Some x → get_elem? words (node_at links mods l) ≡ some x
   node_one l x k more h f true is e = subst (λ z. get_elem? words (node_at links mods z) ≡ some x) (eqb-true k.link l is) (h.1 x e)
@@ -241,18 +247,9 @@ module _ (links mods : ℕ) (words : List ℕ) (next : ℕ → ℕ) where
   node_word l x [] h e = absurd (cc)
   node_word l x (k ∷ ks) h e = node_one l x k (node_in l ks) h.0 (λ q. node_word l x ks h.1 q) (k.link == l) refl e
 
-  staged_die : (l : ℕ) (b : Bool) (s : Stage) → Staged links mods words next l s → Staged links mods words next l (cond b (dying s) s)
-  staged_die l true Claimed h = h
-  staged_die l true (UnderWay n) h = h
-  staged_die l true In h = h
-  staged_die l true Dead h = h
-  staged_die l false s h = h
-
-  pub knows_die : (l : ℕ) (k : LinkView) → Knows links mods words next k → Knows links mods words next (die l k)
-  knows_die l k h = (staged_die k.link (k.link == l) k.stage h.0, h.1)
-
-pub placed_die : (walk : List ℕ) (shared : List SharedView) (l : ℕ) (k : LinkView) → Placed walk shared k → Placed walk shared (die l k)
-placed_die walk shared l k h = λ e. h (sym (die_stage k.stage (k.link == l)) ∙ e)
+  -- what is known of a link stays with its new stage
+  pub restaged_known : (g : Stage → Stage) (l : ℕ) (k : LinkView) → ((s : Stage) → Staged links mods words next k.link s → Staged links mods words next k.link (g s)) → Knows links mods words next k → Knows links mods words next (restaged g l k)
+  restaged_known g l k f h = (stage_if g (λ s t. Staged links mods words next k.link s → Staged links mods words next k.link t) (λ s p. p) f (k.link == l) k.stage h.0, h.1)
 
 chain_one : (chain : ℕ → List ℕ) (m : ℕ) (e : WalkView) (more : Option (List ℕ)) (ls : List ℕ) → Seen chain e → (more ≡ Some ls → chain m ≡ ls) → (b : Bool) → (e.of == m) ≡ b → cond b e.chain more ≡ Some ls → chain m ≡ ls
 chain_one chain m e more ls s f true is q = ap chain (sym (eqb-true e.of m is)) ∙ s ls q
@@ -262,11 +259,8 @@ pub chain_is : (chain : ℕ → List ℕ) (m : ℕ) (es : List WalkView) (ls : L
 chain_is chain m [] ls s q = absurd (cc)
 chain_is chain m (e ∷ es) ls s q = chain_one chain m e (chain_of m es) ls s.0 (λ z. chain_is chain m es ls s.1 z) (e.of == m) refl q
 
-some_chain : (a b : List ℕ) → ◌≡◌ {A = Option (List ℕ)} (Some a) (Some b) → a ≡ b
-some_chain a b e = cc
-
 learn_one : (chain : ℕ → List ℕ) (m : ℕ) (e : WalkView) → Seen chain e → (b : Bool) → (e.of == m) ≡ b → (ls : List ℕ) → cond b (Some (chain m)) e.chain ≡ Some ls → chain e.of ≡ ls
-learn_one chain m e s true is ls q = ap chain (eqb-true e.of m is) ∙ some_chain (chain m) ls q
+learn_one chain m e s true is ls q = ap chain (eqb-true e.of m is) ∙ same_some (chain m) ls q
 learn_one chain m e s false is ls q = s ls q
 
 pub seen_learn : (chain : ℕ → List ℕ) (m : ℕ) (es : List WalkView) → Each (Seen chain) es → Each (Seen chain) (map (learn m (chain m)) es)

@@ -1,15 +1,10 @@
 -- A sole pass sets the counter back.
-use Rattle.std.proofs.Common.{◌≡◌, ℕ, ◌+◌, ◌≤◌, List, [], ◌∷◌, map, set, take, drop, length, inl, true, refl, sym, ap, ◌∙◌, subst, arith, Some, length-set}
-use Rattle.psac_readers.proofs.Terms.{sum_by, map-set, some, get_elem?, at_map, set_else, set_again, ClaimView, sum_set, sum_at, sum_none, all_set, LinkView, ReadersView, Handle, Member, WalkView, SharedView, head_at, dead_at, named, linked, deads, times, Each, mods_of, claims_of, rights_of, Knows, Placed, Seen, Tells, Readable, spent, rewound, regained, Holds}
+use Rattle.std.proofs.Common.{◌≡◌, ℕ, ◌+◌, ◌≤◌, List, [], map, set, take, drop, length, true, refl, sym, ap, ◌∙◌, subst, arith, Some}
+use Rattle.psac_readers.proofs.Terms.{none_in, sum_map, sum_by, map-set, some, get_elem?, at_map, set_again, ClaimView, sum_set, sum_at, sum_none, all_set, LinkView, ReadersView, Handle, Member, WalkView, SharedView, named, linked, deads, times, Each, mods_of, claims_of, rights_of, Knows, Placed, Seen, Readable, spent, rewound, regained, Holds}
 use Rattle.psac_slots.specs.Claiming as claiming
 use Rattle.psac_slots.specs.Handles as handles
 use Rattle.psac_slots.proofs.Rewinds as turns
-use Rattle.psac_readers.proofs.Links.{each_imp, knows_set, sum_map}
-use Rattle.psac_readers.proofs.Keeps.{same_rights, others_stay}
-
-none_in : {A : Type 0} (l : List A) → ((x : A) → Member x l → ⊥) → l ≡ []
-none_in [] f = refl
-none_in (x ∷ l) f = absurd (f x (inl refl))
+use Rattle.psac_readers.proofs.Keeps.{known_far, beside_at}
 
 module _ (links mods : ℕ) (words : List ℕ) (views : List ReadersView) (h : Readable links mods words views) (id : ℕ) (v : ReadersView) (at : get_elem? views id ≡ some v) where
   -- a pass with the empty branch shares nothing
@@ -48,37 +43,20 @@ module _ (links mods : ℕ) (words : List ℕ) (views : List ReadersView) (h : R
       → claiming.Claimed links d front list (set words i x) (set (map claims_of views) id w.claims) → Readable links mods (set words i x) (set views id w)
   low_store w i x d front list low em ew es el ev eb eh cs =
       let t = h.sets.tells id v at in
-      let know : (ks : List LinkView) → Each (Knows links mods words h.sets.next) ks → Each (Knows links mods (set words i x) h.sets.next) ks =
-      each_imp (Knows links mods words h.sets.next) (Knows links mods (set words i x) h.sets.next) (λ k p. knows_set links mods words h.sets.next h.sets.next i x k (λ q. absurd (omega (arith, q, low))) (λ q. absurd (omega (arith, q, low))) refl p) in
-      let total : (g : LinkView → ℕ) → sum_by (λ (u : ReadersView). sum_by g u.links) (set views id w) ≡ sum_by (λ (u : ReadersView). sum_by g u.links) views =
-      λ g. let s = sum_set (λ (u : ReadersView). sum_by g u.links) views id v w at in let a = ap (sum_by g) el in omega (arith, s, a) in
+      let know = known_far links mods words views h id v at i x (λ l. ((λ q. absurd (omega (arith, q, low))), (λ q. absurd (omega (arith, q, low))))) in
+      beside_at links mods words views h id v at w i x d front list (λ m lt q. absurd (omega (arith, q, low))) (λ l q. absurd (omega (arith, q, low)))
+      (subst (claiming.Claimed links d front list (set words i x)) (sym (map-set claims_of views id w)) cs)
+      (λ j. record { live = ev j; branch = eb j; alone = mods_of (ew j); shared = es j })
+      (λ l. ap (sum_by (deads l)) el) (λ m l. ap (sum_by (linked m l)) el) (λ l. let s = ap (sum_by (named l)) el in let a = ap (handles.slot_times l) eh in omega (arith, s, a))
       record {
-        counter = d;
-        head = front;
-        list = list;
-        claims = subst (claiming.Claimed links d front list (set words i x)) (sym (map-set claims_of views id w)) cs;
-        rights = same_rights links mods words views h id v at w (λ j. record { live = ev j; branch = eb j; alone = mods_of (ew j); shared = es j });
-        sets = record {
-          next = h.sets.next;
-          chain = h.sets.chain;
-          beyond = h.sets.beyond;
-          long = (let a = h.sets.long in let b = length-set words i x in omega (arith, a, b));
-          heads = λ m lt. let o = h.sets.heads m lt in (o.0, set_else words i (head_at links m) x (λ q. absurd (omega (arith, q, low))) ∙ o.1, o.2);
-          stored = λ l lt. set_else words i (dead_at links mods l) x (λ q. absurd (omega (arith, q, low))) ∙ (h.sets.stored l lt ∙ ap some (sym (total (deads l))));
-          counted = λ m l. total (linked m l) ∙ h.sets.counted m l;
-          owed = λ l. let p = sum_set (λ (u : ReadersView). handles.slot_times l u.claims.held) views id v w at in let a = ap (handles.slot_times l) eh in let o = h.sets.owed l in let s = total (named l) in omega (arith, s, p, o, a);
-          tells = all_set (λ _ u. Tells links mods (set words i x) h.sets.next h.sets.chain u) views id w
-              record {
-                mods_is = λ l. em ∙ t.mods_is (sym ev ∙ l);
-                known = subst (Each (Knows links mods (set words i x) h.sets.next)) (sym el) (know v.links t.known);
-                placed = subst (λ (z : List WalkView × List SharedView × List LinkView). Each (Placed (mods_of z.0) z.1) z.2) (λ j. (sym ew j, sym es j, sym el j)) t.placed;
-                whole = λ m has l. ap (sum_by (linked m l)) el ∙ t.whole m (subst (λ z. Member m (mods_of z)) ew has) l;
-                seen = subst (Each (Seen h.sets.chain)) (sym ew) t.seen;
-                gone = λ z. el ∙ t.gone (sym ev ∙ z);
-              }
-              (others_stay links mods words views h id v at i x (λ j u n e p. know u.links p));
-        };
+        mods_is = λ l. em ∙ t.mods_is (sym ev ∙ l);
+        known = subst (Each (Knows links mods (set words i x) h.sets.next)) (sym el) (know v.links t.known);
+        placed = subst (λ (z : List WalkView × List SharedView × List LinkView). Each (Placed (mods_of z.0) z.1) z.2) (λ j. (sym ew j, sym es j, sym el j)) t.placed;
+        whole = λ m has l. ap (sum_by (linked m l)) el ∙ t.whole m (subst (λ z. Member m (mods_of z)) ew has) l;
+        seen = subst (Each (Seen h.sets.chain)) (sym ew) t.seen;
+        gone = λ z. el ∙ t.gone (sym ev ∙ z);
       }
+      (λ j u n e p. know u.links p)
 
   -- a sole pass sets the counter back
   pub rewinds_at : v.claims.live ≡ true → v.claims.branch ≡ [] → v.claims.counter ≡ Some h.counter → Readable links mods (set words 0 0) (set views id (rewound v))

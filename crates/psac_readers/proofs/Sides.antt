@@ -1,31 +1,14 @@
 -- Splits and joins keep the rule.
-use Rattle.std.proofs.Common.{◌≡◌, ◌≢◌, ◌⊎◌, ℕ, zero, suc, ◌+◌, ◌<◌, List, [], ◌∷◌, ◌++◌, map, length, set, Bool, true, false, true≢false, cond, refl, sym, ap, ◌∙◌, subst, inl, inr, ⊎_elim, arith, Option, Some, None}
-use Rattle.psac_readers.proofs.Terms.{sum_by, filter, not, ◌&&◌, ◌==◌, sum_by-append, sum_by_push, map-append, map-set, cases_eq, cases_Bool, eqb-true, some, some-ne-none, some-injective, get_elem?, at_map, set_else, Handle, stem, sum_set, sum_two, all_set, Stage, Claimed, UnderWay, In, Dead, LinkView, WalkView, SharedView, ReadersView, Member, Rights, Divided, stays, goes, above, comes_back, united, no_rights, in_set, named, linked, deads, Each, mods_of, claims_of, rights_of, Knows, Placed, Seen, Tells, Readable, labelled, ways, right_link, now_shared, left_of, right_of, joined, unknown, spent, member_left, member_right, filter_member, map_member, one_after, Strangers, on_left, on_right, divides, unites, alone_cases, none_there, shared_same}
+use Rattle.std.proofs.Common.{◌≡◌, ◌≢◌, ◌⊎◌, ℕ, ◌+◌, ◌<◌, List, [], ◌∷◌, ◌++◌, map, length, set, Bool, true, false, true≢false, cond, refl, sym, ap, ◌∙◌, subst, inl, inr, ⊎_elim, arith}
+use Rattle.psac_readers.proofs.Terms.{at_mapped, is_off, none_some, set_there, sum_by, filter, not, ◌&&◌, ◌==◌, sum_by-append, sum_by_push, map-append, map-set, cases_eq, cases_Bool, eqb-true, some, get_elem?, at_map, set_else, Handle, stem, sum_set, sum_two, all_set, Claimed, LinkView, WalkView, SharedView, ReadersView, Member, Rights, Divided, stays, goes, above, comes_back, united, no_rights, in_set, named, linked, deads, Each, mods_of, claims_of, rights_of, Knows, Placed, Seen, Tells, Readable, labelled, ways, right_link, now_shared, left_of, right_of, joined, unknown, spent, member_left, member_right, filter_member, map_member, one_after, Strangers, on_left, on_right, divides, unites, alone_cases, none_there, shared_same}
 use Rattle.psac_slots.specs.Claiming as claiming
 use Rattle.psac_slots.specs.Handles as handles
 use Rattle.psac_slots.proofs.Keeps as laws
-use Rattle.psac_readers.proofs.Links.{each_imp, each_append, each_filter, each_pass, each_zero, sum_split, sum_pass, sum_only, mods_filter}
-
-is_off : (b : Bool) → not b ≡ true → b ≡ false
-is_off true e = absurd (true≢false (sym e))
-is_off false e = refl
-
-is_on : (b : Bool) → b ≡ false → not b ≡ true
-is_on true e = absurd (true≢false e)
-is_on false e = refl
+use Rattle.psac_readers.proofs.Links.{none_if, each_stage, each_imp, each_append, each_filter, each_pass, each_zero, sum_split, sum_pass, sum_only, mods_filter}
 
 both_on : (a b : Bool) → a ≡ true → b ≡ true → (a && b) ≡ true
 both_on true b p q = q
 both_on false b p q = p
-
-none_if : (b : Bool) → ◌≡◌ {A = ℕ} (cond b 0 0) 0
-none_if true = refl
-none_if false = refl
-
-pub of_map : {A B : Type 0} (f : A → B) (xs : List A) (j : ℕ) (y : B) → get_elem? (map f xs) j ≡ some y → (x : A) × (get_elem? xs j ≡ some x) × (f x ≡ y)
-of_map f [] j y e = absurd (some-ne-none y (sym e))
-of_map f (x ∷ xs) zero y e = (x, refl, some-injective (f x) y e)
-of_map f (x ∷ xs) (suc j) y e = of_map f xs j y e
 
 -- a link that isn't of the set
 not_of : (m l : ℕ) (k : LinkView) → k.of ≢ m → linked m l k ≡ 0
@@ -38,14 +21,8 @@ not_of m l k n = by (k.of == m) refl
 not_in : (m l : ℕ) (k : LinkView) → in_set k.stage ≢ 1 → linked m l k ≡ 0
 not_in m l k n = by (in_set k.stage) refl
   where
-    stage : (s : Stage) → (in_set s ≡ 1) ⊎ (in_set s ≡ 0)
-    stage Claimed = inr refl
-    stage (UnderWay n) = inl refl
-    stage In = inl refl
-    stage Dead = inl refl
-
     by : (n : ℕ) → in_set k.stage ≡ n → cond (k.link == l) (cond (k.of == m) n 0) 0 ≡ 0
-    by x e = ⊎_elim (λ p. absurd (n p)) (λ p. ap (λ y. cond (k.link == l) (cond (k.of == m) y 0) 0) (sym e ∙ p) ∙ (ap (λ (y : ℕ). cond (k.link == l) y 0) (none_if (k.of == m)) ∙ none_if (k.link == l))) (stage k.stage)
+    by x e = ⊎_elim (λ p. absurd (n p)) (λ p. ap (λ y. cond (k.link == l) (cond (k.of == m) y 0) 0) (sym e ∙ p) ∙ (ap (λ (y : ℕ). cond (k.link == l) y 0) (none_if (k.of == m)) ∙ none_if (k.link == l))) (each_stage (λ s. (in_set s ≡ 1) ⊎ (in_set s ≡ 0)) (inr refl) (λ n. inl refl) (inl refl) (inl refl) k.stage)
 
 -- who has the set in neither way has no link of it
 none_of : (m l : ℕ) (walk : List ℕ) (shared : List SharedView) → (Member m walk → ⊥) → ((e : SharedView) → Member e shared → e.of ≢ m) → (k : LinkView) → Placed walk shared k → linked m l k ≡ 0
@@ -56,7 +33,7 @@ none_of m l walk shared nw ns k p = ⊎_elim
 
 -- two live passes have branches that are apart
 stranger : (views : List ReadersView) (j : ℕ) (s : Rights ℕ SharedView) (id : ℕ) (v : ReadersView) → claiming.Apart (map claims_of views) → get_elem? views id ≡ some v → j ≢ id → get_elem? (map rights_of views) j ≡ some s → v.claims.live ≡ true → s.live ≡ true → Strangers v.claims.branch s.branch
-stranger views j s id v apart at n e live alive = let q = of_map rights_of views j s e in
+stranger views j s id v apart at n e live alive = let q = at_mapped rights_of views j s e in
     let c = at_map claims_of views j q.0 q.1 in let d = at_map claims_of views id v at in
     subst (λ (z : Rights ℕ SharedView). Strangers v.claims.branch z.branch) q.2
     (let a = ap (λ (z : Rights ℕ SharedView). z.live) q.2 ∙ alive in (apart id j v.claims q.0.claims d c (λ p. n (sym p)) live a, apart j id q.0.claims v.claims c d n a live))
@@ -124,7 +101,7 @@ module _ (shared to_right link_right : ℕ → Bool) where
                 known = each_filter (Knows links mods words h.sets.next) (λ k. not (goes_right k)) v.links t.known;
                 placed = subst (λ z. Each (Placed z (now_shared shared to_right link_right v)) l.links) (sym wl)
                     (each_pass (Placed (mods_of v.walk) v.shared) (Placed (filter (stays ways shared to_right) (mods_of v.walk)) (now_shared shared to_right link_right v)) (λ k. not (goes_right k))
-                    (λ k on p. side_placed v (stays ways shared to_right) k (λ s. both_on _ _ (is_on (shared k.of) s) (is_on (to_right k.of) (sym (right_of_kept k s) ∙ is_off (goes_right k) on))) p) v.links t.placed);
+                    (λ k on p. side_placed v (stays ways shared to_right) k (λ s. both_on _ _ (ap not s) (ap not (sym (right_of_kept k s) ∙ is_off (goes_right k) on))) p) v.links t.placed);
                 whole = λ m has x. let q = on_left ways shared to_right (rights_of v) m (subst (Member m) wl has) in
                     let b = both (linked m x) in let z = sum_pass (linked m x) goes_right (λ k on. gone m x k q.1 q.2 true on (λ e. true≢false e)) v.links in let o = t.whole m q.0 x in omega (arith, b, z, o);
                 seen = each_filter (Seen h.sets.chain) (λ (e : WalkView). stays ways shared to_right e.of) v.walk t.seen;
@@ -135,7 +112,7 @@ module _ (shared to_right link_right : ℕ → Bool) where
                 known = each_filter (Knows links mods words h.sets.next) goes_right v.links t.known;
                 placed = subst (λ z. Each (Placed z (now_shared shared to_right link_right v)) r.links) (sym wr)
                     (each_pass (Placed (mods_of v.walk) v.shared) (Placed (filter (goes ways shared to_right) (mods_of v.walk)) (now_shared shared to_right link_right v)) goes_right
-                    (λ k on p. side_placed v (goes ways shared to_right) k (λ s. both_on _ _ (is_on (shared k.of) s) (sym (right_of_kept k s) ∙ on)) p) v.links t.placed);
+                    (λ k on p. side_placed v (goes ways shared to_right) k (λ s. both_on _ _ (ap not s) (sym (right_of_kept k s) ∙ on)) p) v.links t.placed);
                 whole = λ m has x. let q = on_right ways shared to_right (rights_of v) m (subst (Member m) wr has) in
                     let b = both (linked m x) in let z = sum_pass (linked m x) (λ k. not (goes_right k)) (λ k on. gone m x k q.1 q.2 false (is_off (goes_right k) on) (λ e. true≢false (sym e))) v.links in let o = t.whole m q.0 x in omega (arith, b, z, o);
                 seen = each_filter (Seen h.sets.chain) (λ (e : WalkView). goes ways shared to_right e.of) v.walk t.seen;
@@ -155,9 +132,6 @@ mods_unknown (e ∷ es) = ap (λ l. e.of ∷ l) (mods_unknown es)
 seen_unknown : (chain : ℕ → List ℕ) (es : List SharedView) → Each (Seen chain) (map unknown es)
 seen_unknown chain [] = tt
 seen_unknown chain (e ∷ es) = ((λ ls q. absurd (none_some ls q)), seen_unknown chain es)
-  where
-    none_some : (ls : List ℕ) → ◌≡◌ {A = Option (List ℕ)} None (Some ls) → ⊥
-    none_some a e = absurd (cc)
 
 module _ (links mods : ℕ) (words : List ℕ) (views : List ReadersView) (h : Readable links mods words views) (id other : ℕ) (v w : ReadersView) (b : List Bool) (at : get_elem? views id ≡ some v) (was : get_elem? views other ≡ some w) (two : other ≢ id) (live : v.claims.live ≡ true) (alive : w.claims.live ≡ true) (lb : v.claims.branch ≡ b ++ false ∷ []) (rb : w.claims.branch ≡ b ++ true ∷ []) where
   joined_walk : mods_of (joined v w).walk ≡ (united ways (rights_of v) (rights_of w)).alone
@@ -196,7 +170,7 @@ module _ (links mods : ℕ) (words : List ℕ) (views : List ReadersView) (h : R
       λ k e had of. ⊎_elim
       (λ (p : above ways (stem v.claims.branch) e ≡ true). inr (e, filter_member (above ways (stem v.claims.branch)) e v.shared had p, of))
       (λ (p : above ways (stem v.claims.branch) e ≡ false). inl (member_right k.of (mods_of v.walk ++ mods_of w.walk) (map (λ (f : SharedView). f.of) (filter (comes_back ways (stem v.claims.branch)) v.shared))
-      (subst (λ z. Member z (map (λ (f : SharedView). f.of) (filter (comes_back ways (stem v.claims.branch)) v.shared))) of (map_member (λ (f : SharedView). f.of) e (filter (comes_back ways (stem v.claims.branch)) v.shared) (filter_member (comes_back ways (stem v.claims.branch)) e v.shared had (is_on (above ways (stem v.claims.branch) e) p))))))
+      (subst (λ z. Member z (map (λ (f : SharedView). f.of) (filter (comes_back ways (stem v.claims.branch)) v.shared))) of (map_member (λ (f : SharedView). f.of) e (filter (comes_back ways (stem v.claims.branch)) v.shared) (filter_member (comes_back ways (stem v.claims.branch)) e v.shared had (ap not p))))))
       (cases_Bool (above ways (stem v.claims.branch) e)) in
       let in_left : (e : SharedView) → Member e w.shared → Member e v.shared = shared_same ways (map rights_of views) id other (rights_of v) (rights_of w) b h.rights av aw two live alive lb rb in
       record {
@@ -256,8 +230,3 @@ module _ (links mods : ℕ) (words : List ℕ) (views : List ReadersView) (h : R
               (λ i y o d. h.sets.tells i y d) j u e);
         };
       }
-    where
-      set_there : {A : Type 0} (xs : List A) (i : ℕ) (x y : A) → get_elem? xs i ≡ some x → get_elem? (set xs i y) i ≡ some y
-      set_there [] i x y e = absurd (some-ne-none x (sym e))
-      set_there (z ∷ xs) zero x y e = refl
-      set_there (z ∷ xs) (suc i) x y e = set_there xs i x y e

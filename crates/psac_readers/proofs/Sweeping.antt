@@ -1,8 +1,8 @@
 -- A walk that takes links off.
-use Rattle.std.proofs.Common.{◌≡◌, ◌≢◌, ◌⊎◌, ℕ, suc, ◌+◌, ◌-◌, ◌<◌, ◌≤◌, List, [], ◌∷◌, ◌++◌, map, length, Bool, true, false, true≢false, cond, refl, sym, ap, ◌∙◌, subst, inl, ⊎_elim, arith, Option, Some, None, append_assoc, append-nil}
-use Rattle.psac_readers.proofs.Terms.{sum_by, filter, ◌==◌, eq-eqb, eqb-true, ne_eqb, cases_eq, cases_lt, sum_by-cons, Handle, ClaimView, Member, slot_times, removed, member_times, removed_gone, removed_else, Stage, Claimed, UnderWay, In, Dead, LinkView, WalkView, ReadersView, head_at, next_at, in_set, is_live, named, linked, alive, deads, times, Each, mods_of, chain_of, learn, learned, front, behind, without, known_without, lose, other_link, swept_one, swept, IsSet, is_settled, Fine, Holds, from_word, or_empty, Walks, Placing, TakenOff, Going, remaining, AllGiven}
+use Rattle.std.proofs.Common.{◌≡◌, ◌≢◌, ◌⊎◌, ℕ, suc, ◌+◌, ◌-◌, ◌<◌, ◌≤◌, List, [], ◌∷◌, ◌++◌, map, length, Bool, true, false, true≢false, cond, refl, sym, ap, ◌∙◌, subst, inl, ⊎_elim, arith, Some, append_assoc}
+use Rattle.psac_readers.proofs.Terms.{none_some, sum_by, filter, ◌==◌, eq-eqb, eqb-true, ne_eqb, cases_eq, cases_lt, sum_by-cons, Handle, ClaimView, Member, slot_times, removed, member_times, removed_gone, removed_else, Stage, LinkView, WalkView, ReadersView, head_at, next_at, in_set, is_live, named, linked, alive, deads, times, Each, mods_of, chain_of, learn, learned, front, behind, without, known_without, lose, other_link, swept_one, swept, IsSet, is_settled, Fine, Holds, from_word, or_empty, Walks, Placing, TakenOff, Going, remaining, AllGiven}
 use Rattle.psac_slots.specs.Claiming as claiming
-use Rattle.psac_readers.proofs.Links.{each_filter, mods_learn}
+use Rattle.psac_readers.proofs.Links.{each_filter, each_stage, mods_learn}
 use Rattle.psac_readers.proofs.Walking.{chain_learn, chain_named}
 use Rattle.psac_readers.proofs.Taking.{Only, only_named, only_linked, only_deads, others_sum, gone_sum}
 use Rattle.psac_readers.proofs.Unlinking.{one_if, none_unless, times_append, without_mid, mods_lose, led_last}
@@ -21,9 +21,6 @@ swept_sum x g o (l ∷ ls) v out = swept_sum x g o ls (swept_one l v) (omega (ar
 
 chain_lose : (m l : ℕ) (ls : List ℕ) (es : List WalkView) → chain_of m es ≡ Some ls → chain_of m (map (lose l) es) ≡ Some (without l ls)
 chain_lose m l ls [] e = absurd (none_some ls e)
-  where
-    none_some : (a : List ℕ) → ◌≡◌ {A = Option (List ℕ)} None (Some a) → ⊥
-    none_some a e = absurd (cc)
 chain_lose m l ls (w ∷ es) e = by (λ q. chain_lose m l ls es q) (w.of == m) e
   where
     by : (chain_of m es ≡ Some ls → chain_of m (map (lose l) es) ≡ Some (without l ls)) → (b : Bool) → cond b w.chain (chain_of m es) ≡ Some ls → cond b (known_without l w.chain) (chain_of m (map (lose l) es)) ≡ Some (without l ls)
@@ -180,22 +177,6 @@ sets_out all v m before word ls small has set is at = record {
   none = λ _. refl;
 }
 
--- and how it ends
-pub arrives : (all : Bool) (v w : ReadersView) (m before word : ℕ) → Going all v m w before word → word ≡ 0 → TakenOff all v m w
-arrives all v w m before word g z =
-    let e = none_left word g.rest g.word_is z in record {
-      chain = g.chain;
-      gone = g.gone;
-      kept = g.kept;
-      set = g.set;
-      parts = λ x. let p = g.parts x in let r = ap (times x) e in omega (arith, p, r);
-      becomes = g.becomes;
-      knows = g.knows ∙ ap Some (ap (λ r. g.kept ++ r) e ∙ append-nil g.kept);
-      goes = g.goes;
-      stays = g.stays;
-      none = g.none;
-    }
-
 swept_append : (a b : List ℕ) (v : ReadersView) → swept (a ++ b) v ≡ swept b (swept a v)
 swept_append [] b v = refl
 swept_append (x ∷ a) b v = swept_append a b (swept_one x v)
@@ -240,9 +221,6 @@ learned_else m n ls (e ∷ es) d = by (learned_else m n ls es d) (e.of == m) (e.
     by r true false p q = refl
     by r true true p q = absurd (d (sym (eqb-true e.of m p) ∙ eqb-true e.of n q))
 
-pub none_given : (v : ReadersView) → AllGiven 0 v v
-none_given v = record { gone = []; claims = refl; links = refl; mods = refl; shared = refl; sets = refl; empty = λ m l. absurd (omega (arith, l)) }
-
 -- one set more is empty
 pub one_given : (n : ℕ) (v u w : ReadersView) → AllGiven n v u → TakenOff true u n w → AllGiven (suc n) v w
 one_given n v u w g t =
@@ -285,10 +263,7 @@ swept_held (x ∷ ls) v h l = swept_held ls (swept_one x v)
     l
 
 settled_in : (s : Stage) → is_settled s ≡ 1 → in_set s ≡ 1
-settled_in Claimed e = e
-settled_in (UnderWay n) e = refl
-settled_in In e = refl
-settled_in Dead e = refl
+settled_in = each_stage (λ s. is_settled s ≡ 1 → in_set s ≡ 1) (λ e. e) (λ n e. refl) (λ e. refl) (λ e. refl)
 
 -- links that are in no set are none
 none_linked : (links : ℕ) (ks : List LinkView) → Each (Fine links) ks → ((m l : ℕ) → sum_by (linked m l) ks ≡ 0) → ks ≡ []

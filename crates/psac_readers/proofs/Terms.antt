@@ -8,13 +8,14 @@ pub use Rattle.std.specs.Prelude.{IfErr, IfOk, IfSome, filter, not, slice_index,
 pub use lib.ListN.{get_elem?}
 pub use mathlib.Core.Option.{none, some, some-injective, some-ne-none}
 pub use Rattle.psac_ops.specs.declared.plain.Handle.{Handle}
-pub use Rattle.psac_slots.proofs.Acts.{sole_parts, tells}
+pub use Rattle.psac_slots.proofs.Acts.{slice_at, sole_parts, tells}
 pub use Rattle.psac_slots.proofs.Carrying.{accounted_returned, has_room}
-pub use Rattle.psac_slots.proofs.Dividing.{Strangers, alone_cases, divides, none_there, on_left, on_right, shared_same, unites}
+pub use Rattle.psac_slots.proofs.Dividing.{Strangers, alone_cases, divides, is_off, none_there, on_left, on_right, shared_same, unites}
 pub use Rattle.psac_slots.proofs.Pairs.{filter_member, map_member, member_left, member_right, one_after}
 pub use Rattle.psac_slots.proofs.Removed.{at_most_once, claimed_entry, length-fresh, member_times, removed_else, removed_gone}
 pub use Rattle.psac_slots.proofs.Rewinds.{gone_is, rest_is}
-pub use Rattle.psac_slots.proofs.Sums.{all_set, sum_at, sum_le, sum_none, sum_set, sum_two}
+pub use Rattle.psac_slots.proofs.Sums.{all_set, at_less, sum_at, sum_le, sum_none, sum_set, sum_two}
+pub use Rattle.psac_slots.proofs.Tables.{at_mapped, at_past, handle_at, none_in, none_some, one_more, place_is, ring_length, same_some, set_there, slot_below, sum_map, within}
 pub use Rattle.psac_slots.proofs.Turns.{stem_push}
 pub use Rattle.psac_slots.specs.Branches.{stem}
 pub use Rattle.psac_slots.specs.Claiming.{Accounted, IsSole, counted, entry, place, turned}

@@ -1,14 +1,10 @@
 -- A link is taken off its set.
 use Rattle.std.proofs.Common.{◌≡◌, ◌≢◌, ◌⊎◌, ℕ, suc, ◌+◌, ◌<◌, ◌≤◌, List, [], ◌∷◌, ◌++◌, map, set, Bool, true, false, cond, refl, sym, ap, ◌∙◌, subst, inl, inr, ⊎_elim, arith, Option, Some, None, length-set, append_assoc}
-use Rattle.psac_readers.proofs.Terms.{sum_by, ◌==◌, eq-eqb, eqb-true, ne_eqb, cases_eq, some, get_elem?, set_here, set_else, Member, sum_set, all_set, Stage, Claimed, UnderWay, In, Dead, LinkView, WalkView, ReadersView, head_at, next_at, dead_at, node_at, Follows, in_set, is_live, is_dead, named, linked, alive, deads, times, Each, mods_of, Staged, Knows, Placed, Seen, Tells, Readable, leaving, take_off, without, known_without, lose, unlinked, led_from, is_settled, Fine, front}
+use Rattle.psac_readers.proofs.Terms.{sum_map, same_some, sum_by, ◌==◌, eq-eqb, eqb-true, ne_eqb, cases_eq, some, get_elem?, set_here, set_else, Member, sum_set, all_set, Stage, LinkView, WalkView, ReadersView, head_at, next_at, dead_at, node_at, Follows, in_set, is_live, is_dead, named, linked, alive, deads, times, Each, mods_of, Staged, Knows, Placed, Seen, Tells, Readable, leaving, take_off, without, known_without, lose, unlinked, led_from, is_settled, Fine, front}
 use Rattle.psac_slots.specs.Handles as handles
-use Rattle.psac_readers.proofs.Links.{each_imp, each_map, each_named, sum_map, sum_same, sum_plus, sum_under, only_here, linked_named, alive_deads, follows_else, knows_set, is_there, next_word, front_is}
+use Rattle.psac_readers.proofs.Links.{each_stage, stage_if, stage_else, restaged_known, if_two, in_low, live_low, each_imp, each_map, each_named, sum_same, sum_plus, sum_under, only_here, linked_named, alive_deads, follows_else, knows_set, is_there, next_word, front_is}
 use Rattle.psac_readers.proofs.Walking.{all_whole}
 use Rattle.psac_readers.proofs.Keeps.{same_rights, same_claims, single, inside, elsewhere, here_once}
-
-none_if : (b : Bool) → ◌≡◌ {A = ℕ} (cond b 0 0) 0
-none_if true = refl
-none_if false = refl
 
 pub one_if : (x y : ℕ) → x ≡ y → ◌≡◌ {A = ℕ} (cond (x == y) 1 0) 1
 one_if x y e = ap {B = ℕ} (λ b. cond b 1 0) (eq-eqb x y e)
@@ -51,47 +47,25 @@ without_else l y (x ∷ ls) n = by (without_else l y ls n) (x == l) refl
     by r false e = omega (arith, r)
 
 leaving_dead : (s : Stage) (b : Bool) → is_dead (cond b (leaving s) s) ≡ is_dead s
-leaving_dead Claimed true = refl
-leaving_dead (UnderWay n) true = refl
-leaving_dead In true = refl
-leaving_dead Dead true = refl
-leaving_dead s false = refl
+leaving_dead s b = stage_if leaving (λ s t. is_dead t ≡ is_dead s) (λ s. refl) (each_stage (λ s. is_dead (leaving s) ≡ is_dead s) refl (λ n. refl) refl refl) b s
 
 leaving_in : (s : Stage) (b : Bool) → in_set (cond b (leaving s) s) ≡ 1 → in_set s ≡ 1
-leaving_in Claimed true e = e
-leaving_in (UnderWay n) true e = refl
-leaving_in In true e = refl
-leaving_in Dead true e = refl
-leaving_in s false e = e
+leaving_in s b = stage_if leaving (λ s t. in_set t ≡ 1 → in_set s ≡ 1) (λ s e. e) (each_stage (λ s. in_set (leaving s) ≡ 1 → in_set s ≡ 1) (λ e. e) (λ n e. refl) (λ e. refl) (λ e. refl)) b s
 
 off_here : (l y : ℕ) (k : LinkView) → linked y l (take_off l k) + alive l k ≤ named l k
 off_here l y k = by (k.link == l) (k.of == y) k.stage
   where
     by : (a b : Bool) (s : Stage) → cond a (cond b (in_set (cond a (leaving s) s)) 0) 0 + cond a (is_live s) 0 ≤ cond a 1 0
-    by true true Claimed = omega arith
-    by true true (UnderWay n) = omega arith
-    by true true In = omega arith
-    by true true Dead = omega arith
-    by true false Claimed = omega arith
-    by true false (UnderWay n) = omega arith
-    by true false In = omega arith
-    by true false Dead = omega arith
+    by true true s = each_stage (λ s. in_set (leaving s) + is_live s ≤ 1) (omega arith) (λ n. omega arith) (omega arith) (omega arith) s
+    by true false s = let a = live_low s in omega (arith, a)
     by false b s = omega arith
 
 off_else : (l y x : ℕ) (k : LinkView) → x ≢ l → linked y x (take_off l k) ≡ linked y x k
-off_else l y x k n = by (k.link == l) (k.link == x) refl refl
-  where
-    by : (a b : Bool) → (k.link == l) ≡ a → (k.link == x) ≡ b → cond b (cond (k.of == y) (in_set (cond a (leaving k.stage) k.stage)) 0) 0 ≡ cond b (cond (k.of == y) (in_set k.stage) 0) 0
-    by true true e f = absurd (n (sym (eqb-true k.link x f) ∙ eqb-true k.link l e))
-    by a false e f = refl
-    by false true e f = refl
+off_else l y x k n = stage_else leaving (λ s. cond (k.of == y) (in_set s) 0) l x k n
 
 pub mods_lose : (l : ℕ) (es : List WalkView) → mods_of (map (lose l) es) ≡ mods_of es
 mods_lose l [] = refl
 mods_lose l (e ∷ es) = ap (λ z. e.of ∷ z) (mods_lose l es)
-
-some_list : (a b : List ℕ) → ◌≡◌ {A = Option (List ℕ)} (Some a) (Some b) → a ≡ b
-some_list a b e = cc
 
 seen_lose : (l : ℕ) (chain : ℕ → List ℕ) (es : List WalkView) → Each (Seen chain) es → Each (Seen (λ y. without l (chain y))) (map (lose l) es)
 seen_lose l chain [] s = tt
@@ -99,24 +73,17 @@ seen_lose l chain (e ∷ es) s = (λ ls q. by e.chain (s.0) ls q, seen_lose l ch
   where
     by : (o : Option (List ℕ)) → ((ls : List ℕ) → o ≡ Some ls → chain e.of ≡ ls) → (ls : List ℕ) → known_without l o ≡ Some ls → without l (chain e.of) ≡ ls
     by None f ls q = absurd (cc)
-    by (Some ks) f ls q = ap (without l) (f ks refl) ∙ some_list (without l ks) ls q
+    by (Some ks) f ls q = ap (without l) (f ks refl) ∙ same_some (without l ks) ls q
 
 -- in another set is no link of this one
 apart_sets : (m y x : ℕ) (k : LinkView) → y ≢ m → linked m x k + linked y x k ≤ named x k
-apart_sets m y x k n = by (k.link == x) (k.of == m) (k.of == y) refl refl k.stage
+apart_sets m y x k n = if_two (k.link == x) (cond (k.of == m) (in_set k.stage) 0) (cond (k.of == y) (in_set k.stage) 0) 1 (by (k.of == m) (k.of == y) refl refl)
   where
-    by : (a b c : Bool) → (k.of == m) ≡ b → (k.of == y) ≡ c → (s : Stage) → cond a (cond b (in_set s) 0) 0 + cond a (cond c (in_set s) 0) 0 ≤ cond a 1 0
-    by false b c e f s = omega arith
-    by true true true e f s = absurd (n (sym (eqb-true k.of y f) ∙ eqb-true k.of m e))
-    by true false false e f s = omega arith
-    by true true false e f Claimed = omega arith
-    by true true false e f (UnderWay z) = omega arith
-    by true true false e f In = omega arith
-    by true true false e f Dead = omega arith
-    by true false true e f Claimed = omega arith
-    by true false true e f (UnderWay z) = omega arith
-    by true false true e f In = omega arith
-    by true false true e f Dead = omega arith
+    by : (b c : Bool) → (k.of == m) ≡ b → (k.of == y) ≡ c → cond b (in_set k.stage) 0 + cond c (in_set k.stage) 0 ≤ 1
+    by true true e f = absurd (n (sym (eqb-true k.of y f) ∙ eqb-true k.of m e))
+    by true false e f = let a = in_low k.stage in omega (arith, a)
+    by false true e f = let a = in_low k.stage in omega (arith, a)
+    by false false e f = omega arith
 
 module _ (links mods : ℕ) (words : List ℕ) (views : List ReadersView) (h : Readable links mods words views) (id : ℕ) (v : ReadersView) (at : get_elem? views id ≡ some v) (l : ℕ) (live : 0 < sum_by (alive l) v.links) where
   mine : 0 < sum_by (named l) v.links
@@ -234,14 +201,8 @@ rest next l [] b w f = f.1
 rest next l (x ∷ a) b w f = let g : Follows next (next x) (a ++ l ∷ b) = f.1 in rest next l a b (next x) g
 
 off_known : (links mods : ℕ) (words : List ℕ) (next : ℕ → ℕ) (l : ℕ) (k : LinkView) → Knows links mods words next k → Knows links mods words next (take_off l k)
-off_known links mods words next l k p = (by k.stage (k.link == l) p.0, p.1)
-  where
-    by : (s : Stage) (b : Bool) → Staged links mods words next k.link s → Staged links mods words next k.link (cond b (leaving s) s)
-    by Claimed true q = q
-    by (UnderWay n) true q = q
-    by In true q = tt
-    by Dead true q = q
-    by s false q = q
+off_known links mods words next l k =
+    restaged_known links mods words next leaving l k (each_stage (λ s. Staged links mods words next k.link s → Staged links mods words next k.link (leaving s)) (λ q. q) (λ n q. q) (λ q. tt) (λ q. q))
 
 module _ (links mods : ℕ) (words : List ℕ) (views : List ReadersView) (h : Readable links mods words views) (id : ℕ) (v : ReadersView) (at : get_elem? views id ≡ some v) (m : ℕ) (small : m < mods) (has : Member m (mods_of v.walk)) (fine : Each (Fine links) v.links) where
   last_word : (l : ℕ) (b z : List ℕ) (p : ℕ) → h.sets.chain m ≡ z ++ p ∷ l ∷ b → get_elem? words (next_at links mods p) ≡ some (suc l)
@@ -348,10 +309,8 @@ module _ (links mods : ℕ) (words : List ℕ) (views : List ReadersView) (h : R
       )
     where
       staged_now : (links mods : ℕ) (ws : List ℕ) (next : ℕ → ℕ) (x : ℕ) (s : Stage) → is_settled s ≡ 1 → get_elem? ws (next_at links mods x) ≡ some (next x) → Staged links mods ws next x s
-      staged_now links mods ws next x Claimed e g = absurd (omega (arith, e))
-      staged_now links mods ws next x (UnderWay k) e g = absurd (omega (arith, e))
-      staged_now links mods ws next x In e g = g
-      staged_now links mods ws next x Dead e g = g
+      staged_now links mods ws next x s e g =
+          each_stage (λ s. is_settled s ≡ 1 → Staged links mods ws next x s) (λ e. absurd (omega (arith, e))) (λ k e. absurd (omega (arith, e))) (λ e. g) (λ e. g) s e
 
       each_two : {A B : Type 0} (P Q : A → Type 0) (R : B → Type 0) (f : A → B) → ((x : A) → P x → Q x → R (f x)) → (xs : List A) → Each P xs → Each Q xs → Each R (map f xs)
       each_two P Q R f g [] p q = tt

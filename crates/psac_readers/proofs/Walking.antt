@@ -1,7 +1,7 @@
 -- A walk along a chain.
-use Rattle.std.proofs.Common.{◌≡◌, ◌≢◌, ◌⊎◌, ℕ, suc, zero, ◌+◌, ◌-◌, ◌<◌, ◌≤◌, List, [], ◌∷◌, map, length, Bool, true, false, true≢false, cond, ltb, refl, sym, ap, ◌∙◌, subst, inl, inr, ⊎_elim, arith, Option, Some, None}
-use Rattle.psac_readers.proofs.Terms.{sum_by, ◌==◌, IfSome, sum_by-cons, eq-eqb, eqb-true, ne_eqb, lt-ltb, le-ltb, ltb-true, Stage, Claimed, UnderWay, In, Dead, LinkView, ReadersView, named, linked, alive, deads, in_set, is_live, is_dead, times, Each, mods_of, WalkView, Member, Fine, is_settled, settled, front, behind, next_live, IsSet, chain_of, set_of, node_in, learn, Link, from_word, has_word, Walks, OnWalk, found}
-use Rattle.psac_readers.proofs.Links.{linked_named, sum_under}
+use Rattle.std.proofs.Common.{◌≡◌, ◌≢◌, ◌⊎◌, ℕ, suc, ◌+◌, ◌-◌, ◌<◌, ◌≤◌, List, [], ◌∷◌, map, length, Bool, true, false, true≢false, cond, ltb, refl, sym, ap, ◌∙◌, subst, inl, inr, ⊎_elim, arith, Option, Some, None}
+use Rattle.psac_readers.proofs.Terms.{none_some, same_some, sum_by, ◌==◌, IfSome, sum_by-cons, eq-eqb, eqb-true, ne_eqb, lt-ltb, le-ltb, ltb-true, Stage, LinkView, ReadersView, named, linked, alive, deads, in_set, is_live, is_dead, times, Each, mods_of, WalkView, Member, Fine, is_settled, settled, front, behind, next_live, IsSet, chain_of, set_of, node_in, learn, Link, from_word, has_word, Walks, OnWalk, found}
+use Rattle.psac_readers.proofs.Links.{each_stage, linked_named, sum_under}
 
 -- a word that names a link of the chain
 pub at_word : (w l : ℕ) → w ≡ suc l → (ls : List ℕ) → has_word w ls → (0 < times l ls) × (from_word w ls ≡ l ∷ behind l ls)
@@ -52,10 +52,7 @@ module _ (n : ℕ) where
   one_whole l k f = by (k.link == l) k.stage f.settled
     where
       by : (b : Bool) (s : Stage) → is_settled s ≡ 1 → (cond b (is_live s) 0 + cond b (is_dead s) 0 ≡ cond b 1 0) × (◌≡◌ {A = ℕ} (cond b (is_settled s) 0) (cond b 1 0))
-      by true Claimed e = absurd (omega (arith, e))
-      by true (UnderWay x) e = absurd (omega (arith, e))
-      by true In e = (refl, refl)
-      by true Dead e = (refl, refl)
+      by true s e = each_stage (λ s. is_settled s ≡ 1 → (is_live s + is_dead s ≡ 1) × (is_settled s ≡ 1)) (λ e. absurd (omega (arith, e))) (λ x e. absurd (omega (arith, e))) (λ e. (refl, refl)) (λ e. (refl, refl)) s e
       by false s e = (refl, refl)
 
   -- of settled links each is live or dead
@@ -91,14 +88,10 @@ pub record Turn (n : ℕ) (v : ReadersView) (w : ℕ) (ls : List ℕ) : Type 0 w
 
 pub turn : (n : ℕ) (v : ReadersView) (m w : ℕ) (ls : List ℕ) → IsSet v m ls → Each (Fine n) v.links → w ≢ 0 → has_word w ls → Turn n v w ls
 turn n v m w ls set fine d h =
-    let is : w ≡ suc (w - 1) = pred w d in
+    let is : w ≡ suc (w - 1) = omega (arith, d) in
     let a = at_word w (w - 1) is ls h in
     let own = chain_named v m (w - 1) ls set a.0 in
     record { on = a.0; part = a.1; own = own; low = named_low n (w - 1) v.links fine own }
-  where
-    pred : (w : ℕ) → w ≢ 0 → w ≡ suc (w - 1)
-    pred zero n = absurd (n refl)
-    pred (suc w) n = omega arith
 
 -- its dead word is 0 where it is live
 pub turn_live : (n : ℕ) (v : ReadersView) (w dead : ℕ) (ls : List ℕ) → Turn n v w ls → Each (Fine n) v.links → dead ≡ sum_by (deads (w - 1)) v.links → dead ≡ 0 → next_live v.links (from_word w ls) ≡ Some (w - 1)
@@ -109,16 +102,12 @@ pub turn_dead : (n : ℕ) (v : ReadersView) (m w dead : ℕ) (ls : List ℕ) →
     → has_word new ls × (next_live v.links (from_word new ls) ≡ next_live v.links (from_word w ls)) × (length (from_word new ls) < length (from_word w ls))
 turn_dead n v m w dead ls set t fine once is d new e =
     let p : from_word new ls ≡ behind (w - 1) ls = ap (λ x. from_word x ls) e ∙ next_part (w - 1) ls (λ x. (set x).1) in
-    let dead_one : 0 < sum_by (deads (w - 1)) v.links = more dead d is in
+    let dead_one : 0 < sum_by (deads (w - 1)) v.links = omega (arith, d, is) in
     let off : sum_by (alive (w - 1)) v.links ≡ 0 = omega (arith, (all_whole n (w - 1) v.links fine).0, once, dead_one) in (
       e ∙ ap front (sym p),
       ap (next_live v.links) p ∙ (sym (passes v.links (w - 1) (behind (w - 1) ls) off) ∙ ap (next_live v.links) (sym t.part)),
       (let x = ap length p in let y = ap length t.part in omega (arith, x, y)),
     )
-  where
-    more : (dead : ℕ) → dead ≢ 0 → dead ≡ sum_by (deads (w - 1)) v.links → 0 < sum_by (deads (w - 1)) v.links
-    more zero n is = absurd (n refl)
-    more (suc x) n is = omega (arith, is)
 
 pub turn_settled : (n : ℕ) (v : ReadersView) (w : ℕ) (ls : List ℕ) → Turn n v w ls → Each (Fine n) v.links → 0 < sum_by (settled (w - 1)) v.links
 turn_settled n v w ls t fine = let a = (all_whole n (w - 1) v.links fine).1 in let o = t.own in omega (arith, a, o)
@@ -148,22 +137,13 @@ word_whole n ls e = let p : from_word n ls ≡ ls = ap (λ x. from_word x ls) e 
 pub word_behind : (n l : ℕ) (ls : List ℕ) → ((x : ℕ) → times x ls ≤ 1) → n ≡ front (behind l ls) → (has_word n ls) × (from_word n ls ≡ behind l ls)
 word_behind n l ls d e = let p : from_word n ls ≡ behind l ls = ap (λ x. from_word x ls) e ∙ next_part l ls d in (e ∙ ap front (sym p), p)
 
-pub same_chain : (a b : List ℕ) → ◌≡◌ {A = Option (List ℕ)} (Some a) (Some b) → a ≡ b
-same_chain a b e = cc
-
 -- the first live link is one of them, and live
 pub next_found : (ks : List LinkView) (ls : List ℕ) (l : ℕ) → next_live ks ls ≡ Some l → (0 < times l ls) × (0 < sum_by (alive l) ks)
 next_found ks [] l e = absurd (none_some l e)
-  where
-    none_some : (a : ℕ) → ◌≡◌ {A = Option ℕ} None (Some a) → ⊥
-    none_some a e = absurd (cc)
 next_found ks (x ∷ ls) l e = by (λ q. next_found ks ls l q) (ltb 0 (sum_by (alive x) ks)) refl e
   where
-    some_some : (a b : ℕ) → ◌≡◌ {A = Option ℕ} (Some a) (Some b) → a ≡ b
-    some_some a b e = cc
-
     by : (next_live ks ls ≡ Some l → (0 < times l ls) × (0 < sum_by (alive l) ks)) → (b : Bool) → ltb 0 (sum_by (alive x) ks) ≡ b → cond b (Some x) (next_live ks ls) ≡ Some l → (0 < times l (x ∷ ls)) × (0 < sum_by (alive l) ks)
-    by more true is q = let same = some_some x l q in let o = ap {B = ℕ} (λ b. cond b 1 0) (eq-eqb x l same) in (omega (arith, o), subst (λ y. 0 < sum_by (alive y) ks) same (ltb-true 0 (sum_by (alive x) ks) is))
+    by more true is q = let same = same_some x l q in let o = ap {B = ℕ} (λ b. cond b 1 0) (eq-eqb x l same) in (omega (arith, o), subst (λ y. 0 < sum_by (alive y) ks) same (ltb-true 0 (sum_by (alive x) ks) is))
     by more false is q = let r = more q in let a = r.0 in (omega (arith, a), r.1)
 
 pub behind_on : (y l : ℕ) (ls : List ℕ) → 0 < times y (behind l ls) → 0 < times y ls

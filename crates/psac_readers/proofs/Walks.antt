@@ -1,7 +1,7 @@
 -- A whole walk lists the live links of its set.
-use Rattle.std.proofs.Common.{◌≡◌, ◌≢◌, ℕ, ◌+◌, ◌<◌, ◌≤◌, List, [], ◌∷◌, Bool, true, false, true≢false, cond, ltb, refl, sym, ap, ◌∙◌, subst, arith, Option, Some, None}
-use Rattle.psac_readers.proofs.Terms.{sum_by, ◌==◌, sum_by-cons, eq-eqb, eqb-true, ne_eqb, Stage, Claimed, UnderWay, In, Dead, LinkView, ReadersView, named, linked, alive, in_set, is_live, times, IsSet, behind, next_live, Answers, live_in, Walked}
-use Rattle.psac_readers.proofs.Links.{sum_under}
+use Rattle.std.proofs.Common.{◌≡◌, ◌≢◌, ℕ, ◌+◌, ◌<◌, ◌≤◌, List, [], ◌∷◌, Bool, true, false, true≢false, cond, ltb, refl, sym, ap, ◌∙◌, subst, arith, Option, Some}
+use Rattle.psac_readers.proofs.Terms.{none_some, same_some, sum_by, ◌==◌, sum_by-cons, eq-eqb, eqb-true, ne_eqb, Stage, LinkView, ReadersView, named, linked, alive, in_set, is_live, times, IsSet, behind, next_live, Answers, live_in, Walked}
+use Rattle.psac_readers.proofs.Links.{each_stage, if_less, if_low, in_low, live_low, none_if, sum_under}
 
 abbrev is_alive : List LinkView → ℕ → Bool
 is_alive ks l = ltb 0 (sum_by (alive l) ks)
@@ -37,12 +37,6 @@ walks ks chain (l ∷ rest) d h = by (λ e f. walks ks chain rest e f) (is_alive
     by on true = (refl, subst (λ r. Answers ks chain (next_live ks r) (lives ks rest)) (sym here) (on below tail))
     by on false = on below tail
 
-none_some : (y : ℕ) → ◌≡◌ {A = Option ℕ} None (Some y) → ⊥
-none_some y e = absurd (cc)
-
-same_some : (x y : ℕ) → ◌≡◌ {A = Option ℕ} (Some x) (Some y) → x ≡ y
-same_some x y e = cc
-
 one_walk : (ks : List LinkView) (chain : List ℕ) (o : Option ℕ) (xs ys : List ℕ) → Answers ks chain o xs → Answers ks chain o ys → xs ≡ ys
 one_walk ks chain o [] [] a b = refl
 one_walk ks chain o [] (y ∷ ys) a b = absurd (none_some y (sym a ∙ b.0))
@@ -53,11 +47,7 @@ one_walk ks chain o (x ∷ xs) (y ∷ ys) a b =
     λ i. e i ∷ r i
 
 times_lives : (ks : List LinkView) (l : ℕ) (ls : List ℕ) → times l (lives ks ls) ≡ cond (is_alive ks l) (times l ls) 0
-times_lives ks l [] = none (is_alive ks l)
-  where
-    none : (b : Bool) → ◌≡◌ {A = ℕ} 0 (cond b 0 0)
-    none true = refl
-    none false = refl
+times_lives ks l [] = sym (none_if (is_alive ks l))
 times_lives ks l (x ∷ ls) = split (is_alive ks x) ∙ one (is_alive ks x) (x == l) (is_alive ks l) (times l (lives ks ls)) (times l ls) (λ e. ap (is_alive ks) (eqb-true x l e)) (times_lives ks l ls)
   where
     split : (b : Bool) → times l (cond b (x ∷ lives ks ls) (lives ks ls)) ≡ cond b (cond (x == l) 1 0 + times l (lives ks ls)) (times l (lives ks ls))
@@ -76,27 +66,7 @@ times_lives ks l (x ∷ ls) = split (is_alive ks x) ∙ one (is_alive ks x) (x =
 
 -- at most as much as whether the link is named
 below_named : (l : ℕ) (f : LinkView → ℕ) → ((k : LinkView) → f k ≤ 1) → (ks : List LinkView) → sum_by (λ k. cond (k.link == l) (f k) 0) ks ≤ sum_by (named l) ks
-below_named l f p ks = sum_under (λ k. cond (k.link == l) (f k) 0) (named l) (λ k. one (k.link == l) (f k) (p k)) ks
-  where
-    one : (b : Bool) (n : ℕ) → n ≤ 1 → cond b n 0 ≤ cond b 1 0
-    one true n p = p
-    one false n p = omega arith
-
-live_low : (s : Stage) → is_live s ≤ 1
-live_low Claimed = omega arith
-live_low (UnderWay n) = omega arith
-live_low In = omega arith
-live_low Dead = omega arith
-
-in_low : (s : Stage) → in_set s ≤ 1
-in_low Claimed = omega arith
-in_low (UnderWay n) = omega arith
-in_low In = omega arith
-in_low Dead = omega arith
-
-with_low : (b : Bool) (n : ℕ) → n ≤ 1 → cond b n 0 ≤ 1
-with_low true n p = p
-with_low false n p = omega arith
+below_named l f p ks = sum_under (λ k. cond (k.link == l) (f k) 0) (named l) (λ k. if_less (k.link == l) (f k) 1 (p k)) ks
 
 -- a link of the set is live in it where it is live
 live_one : (m l : ℕ) (ks : List LinkView) → sum_by (named l) ks ≤ 1 → sum_by (live_in m l) ks ≡ cond (is_alive ks l) (sum_by (linked m l) ks) 0
@@ -105,14 +75,8 @@ live_one m l (k ∷ ks) o = by (λ p. live_one m l ks p) (k.link == l) refl
   where
     one : (b c : Bool) (s : Stage) → cond b (cond c (is_live s) 0) 0 ≡ cond (ltb 0 (cond b (is_live s) 0)) (cond b (cond c (in_set s) 0) 0) 0
     one false c s = refl
-    one true true Claimed = refl
-    one true true (UnderWay n) = refl
-    one true true In = refl
-    one true true Dead = refl
-    one true false Claimed = refl
-    one true false (UnderWay n) = refl
-    one true false In = refl
-    one true false Dead = refl
+    one true true s = each_stage (λ s. is_live s ≡ cond (ltb 0 (is_live s)) (in_set s) 0) refl (λ n. refl) refl refl s
+    one true false s = each_stage (λ s. 0 ≡ cond (ltb 0 (is_live s)) 0 0) refl (λ n. refl) refl refl s
 
     put : (a b c d e f : ℕ) → a ≡ d → b ≡ e → c ≡ f → d ≡ cond (ltb 0 e) f 0 → a ≡ cond (ltb 0 b) c 0
     put a b c d e f p q r h = p ∙ (h ∙ (λ i. cond (ltb 0 (sym q i)) (sym r i) 0))
@@ -120,9 +84,9 @@ live_one m l (k ∷ ks) o = by (λ p. live_one m l ks p) (k.link == l) refl
     by : (sum_by (named l) ks ≤ 1 → sum_by (live_in m l) ks ≡ cond (is_alive ks l) (sum_by (linked m l) ks) 0) → (b : Bool) → (k.link == l) ≡ b → sum_by (live_in m l) (k ∷ ks) ≡ cond (is_alive (k ∷ ks) l) (sum_by (linked m l) (k ∷ ks)) 0
     by on true e =
         let here : named l k ≡ 1 = ap {B = ℕ} (λ b. cond b 1 0) e in
-        let x = below_named l (λ k. cond (k.of == m) (is_live k.stage) 0) (λ k. with_low (k.of == m) (is_live k.stage) (live_low k.stage)) ks in
+        let x = below_named l (λ k. cond (k.of == m) (is_live k.stage) 0) (λ k. if_low (k.of == m) (is_live k.stage) 1 (live_low k.stage)) ks in
         let y = below_named l (λ k. is_live k.stage) (λ k. live_low k.stage) ks in
-        let z = below_named l (λ k. cond (k.of == m) (in_set k.stage) 0) (λ k. with_low (k.of == m) (in_set k.stage) (in_low k.stage)) ks in
+        let z = below_named l (λ k. cond (k.of == m) (in_set k.stage) 0) (λ k. if_low (k.of == m) (in_set k.stage) 1 (in_low k.stage)) ks in
         let a = sum_by-cons (live_in m l) k ks in let b = sum_by-cons (alive l) k ks in let c = sum_by-cons (linked m l) k ks in let n = sum_by-cons (named l) k ks in
         put (sum_by (live_in m l) (k ∷ ks)) (sum_by (alive l) (k ∷ ks)) (sum_by (linked m l) (k ∷ ks)) (live_in m l k) (alive l k) (linked m l k) (omega (arith, a, n, here, o, x)) (omega (arith, b, n, here, o, y)) (omega (arith, c, n, here, o, z)) (one (k.link == l) (k.of == m) k.stage)
     by on false e =

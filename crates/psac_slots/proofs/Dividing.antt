@@ -11,7 +11,7 @@ use Rattle.psac_slots.specs.Handles.{Member}
 use Rattle.psac_slots.specs.Divided.{Ways, Rights, Own, Beside, Divided, stays, goes, lends, told, left_rights, right_rights, above, comes_back, united, no_rights, Met}
 use Rattle.psac_slots.proofs.Sums.{all_set}
 use Rattle.psac_slots.proofs.Pairs.{member_left, member_cases, member_filter, filter_member, member_map, one_after, pairs_set, pairs_end}
-use Rattle.psac_slots.proofs.Turns.{prefix_refl, prefix_long, prefix_cases, prefix_next, stem_push}
+use Rattle.psac_slots.proofs.Turns.{same_head, with_head, prefix_refl, prefix_long, prefix_cases, prefix_next, stem_push}
 
 pub off : (b : Bool) → not b ≡ true → b ≡ true → ⊥
 off true e t = true≢false (sym e)
@@ -24,40 +24,26 @@ is_off false e = refl
 pub prefix_short_length : (a b : List Bool) → is_prefix a b ≡ true → length a ≤ length b
 prefix_short_length [] b e = omega arith
 prefix_short_length (x ∷ a) [] e = absurd (true≢false (sym e))
-prefix_short_length (true ∷ a) (true ∷ b) e = let r = prefix_short_length a b e in omega (arith, r)
-prefix_short_length (false ∷ a) (false ∷ b) e = let r = prefix_short_length a b e in omega (arith, r)
-prefix_short_length (true ∷ a) (false ∷ b) e = absurd (true≢false (sym e))
-prefix_short_length (false ∷ a) (true ∷ b) e = absurd (true≢false (sym e))
+prefix_short_length (x ∷ a) (y ∷ b) e = let r = prefix_short_length a b (same_head x y a b e).1 in omega (arith, r)
 
 -- a prefix of a branch and one turn is that, or a prefix of the branch
 pub prefix_cut : (a b : List Bool) (x : Bool) → is_prefix a (b ++ x ∷ []) ≡ true → length a ≤ length b → is_prefix a b ≡ true
 prefix_cut [] b x e l = refl
 prefix_cut (y ∷ a) [] x e l = absurd (omega arith)
-prefix_cut (true ∷ a) (true ∷ b) x e l = prefix_cut a b x e (omega arith)
-prefix_cut (false ∷ a) (false ∷ b) x e l = prefix_cut a b x e (omega arith)
-prefix_cut (true ∷ a) (false ∷ b) x e l = absurd (true≢false (sym e))
-prefix_cut (false ∷ a) (true ∷ b) x e l = absurd (true≢false (sym e))
+prefix_cut (y ∷ a) (z ∷ b) x e l = let q = same_head y z a (b ++ x ∷ []) e in with_head y z a b q.0 (prefix_cut a b x q.1 (omega (arith, l)))
 
 pub prefix_whole : (a b : List Bool) → is_prefix a b ≡ true → length b ≤ length a → a ≡ b
 prefix_whole [] [] e l = refl
 prefix_whole [] (x ∷ b) e l = absurd (omega arith)
 prefix_whole (x ∷ a) [] e l = absurd (true≢false (sym e))
-prefix_whole (true ∷ a) (true ∷ b) e l = ap (λ z. true ∷ z) (prefix_whole a b e (omega arith))
-prefix_whole (false ∷ a) (false ∷ b) e l = ap (λ z. false ∷ z) (prefix_whole a b e (omega arith))
-prefix_whole (true ∷ a) (false ∷ b) e l = absurd (true≢false (sym e))
-prefix_whole (false ∷ a) (true ∷ b) e l = absurd (true≢false (sym e))
+prefix_whole (x ∷ a) (y ∷ b) e l = let q = same_head x y a b e in let r = prefix_whole a b q.1 (omega (arith, l)) in λ i. q.0 i ∷ r i
 
 -- what begins a branch that begins another begins that one
 pub prefix_through : (a b c : List Bool) → is_prefix a b ≡ true → is_prefix b c ≡ true → is_prefix a c ≡ true
 prefix_through [] b c p q = refl
 prefix_through (x ∷ a) [] c p q = absurd (true≢false (sym p))
 prefix_through (x ∷ a) (y ∷ b) [] p q = absurd (true≢false (sym q))
-prefix_through (true ∷ a) (true ∷ b) (true ∷ c) p q = prefix_through a b c p q
-prefix_through (false ∷ a) (false ∷ b) (false ∷ c) p q = prefix_through a b c p q
-prefix_through (true ∷ a) (false ∷ b) c p q = absurd (true≢false (sym p))
-prefix_through (false ∷ a) (true ∷ b) c p q = absurd (true≢false (sym p))
-prefix_through (true ∷ a) (true ∷ b) (false ∷ c) p q = absurd (true≢false (sym q))
-prefix_through (false ∷ a) (false ∷ b) (true ∷ c) p q = absurd (true≢false (sym q))
+prefix_through (x ∷ a) (y ∷ b) (z ∷ c) p q = let s = same_head x y a b p in let t = same_head y z b c q in with_head x z a c (s.0 ∙ t.0) (prefix_through a b c s.1 t.1)
 
 -- neither branch begins the other
 abbrev pub Strangers : List Bool → List Bool → Type 0

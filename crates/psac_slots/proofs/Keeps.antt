@@ -8,30 +8,24 @@ use Rattle.std.proofs.lemmas.List.{set_comm}
 use Rattle.std.proofs.Math.Nat.{pow-suc}
 use mathlib.Core.Option.{some}
 use lib.ListN.{get_elem?}
-use Rattle.atomic_table.proofs.Lists.{at_set, set_else, set_here}
+use Rattle.atomic_table.proofs.Lists.{set_else, set_here}
 use Rattle.psac_slots.specs.declared.view.ClaimView.{ClaimView}
 use Rattle.psac_ops.specs.declared.plain.Handle.{Handle}
 use Rattle.psac_slots.specs.Branches.{is_prefix, stem}
 use Rattle.psac_slots.specs.Handles.{slot_times}
 use Rattle.psac_slots.specs.Claiming.{weight, times, place, Fits, Apart, Claimed, entry, counted_on, drew, left_of, right_of, joined, spent}
-use Rattle.psac_slots.proofs.Sums.{sum_set, sum_two, sum_le, all_set, all_end, at_new, at_less, cut_one, once_below_more}
+use Rattle.psac_slots.proofs.Sums.{sum_set, sum_two, sum_le, all_set, all_end, at_less, cut_one, once_below_more}
+use Rattle.psac_slots.proofs.Pairs.{pairs_set, pairs_end}
 use Rattle.psac_slots.proofs.Turns.{prefix_refl, prefix_short, prefix_long, prefix_cases, prefix_next, sides_apart, stem_push}
+
+abbrev Parted : ClaimView → ClaimView → Type 0
+Parted v u = v.live ≡ true → u.live ≡ true → is_prefix v.branch u.branch ≡ false
 
 -- the other branches after one view became w
 apart_set : (views : List ClaimView) (id : ℕ) (w : ClaimView) → Apart views
     → (w.live ≡ true → (j : ℕ) (u : ClaimView) → j ≢ id → get_elem? views j ≡ some u → u.live ≡ true → (is_prefix w.branch u.branch ≡ false) × (is_prefix u.branch w.branch ≡ false))
     → Apart (set views id w)
-apart_set views id w h mine i j v u ei ej n lv lu =
-    ⊎_elim
-    (λ (x : (i ≡ id) × (w ≡ v)). ⊎_elim
-    (λ (y : (j ≡ id) × (w ≡ u)). absurd (n (x.0 ∙ sym y.0)))
-    (λ (y : (j ≢ id) × (get_elem? views j ≡ some u)). subst (λ (z : ClaimView). is_prefix z.branch u.branch ≡ false) x.1 ((mine (ap (λ (z : ClaimView). z.live) x.1 ∙ lv) j u y.0 y.1 lu).0))
-    (at_set views id j w u ej))
-    (λ (x : (i ≢ id) × (get_elem? views i ≡ some v)). ⊎_elim
-    (λ (y : (j ≡ id) × (w ≡ u)). subst (λ (z : ClaimView). is_prefix v.branch z.branch ≡ false) y.1 ((mine (ap (λ (z : ClaimView). z.live) y.1 ∙ lu) i v x.0 x.1 lv).1))
-    (λ (y : (j ≢ id) × (get_elem? views j ≡ some u)). h i j v u x.1 y.1 n lv lu)
-    (at_set views id j w u ej))
-    (at_set views id i w v ei)
+apart_set views id w h mine = pairs_set Parted views id w h (λ j u n e. (λ lw lu. (mine lw j u n e lu).0, λ lu lw. (mine lw j u n e lu).1))
 
 -- a view with the branch that it had
 pub apart_same : (views : List ClaimView) (id : ℕ) (v w : ClaimView) → Apart views → get_elem? views id ≡ some v → v.live ≡ true → w.branch ≡ v.branch → Apart (set views id w)
@@ -157,17 +151,7 @@ halves n l = let e : 62 - n ≡ suc (62 - (n + 1)) = omega arith in rw e (let p 
 apart_end : (views : List ClaimView) (r : ClaimView) → Apart views
     → ((j : ℕ) (u : ClaimView) → get_elem? views j ≡ some u → u.live ≡ true → (is_prefix r.branch u.branch ≡ false) × (is_prefix u.branch r.branch ≡ false))
     → Apart (views ++ r ∷ [])
-apart_end views r h mine i j v u ei ej n lv lu =
-    ⊎_elim
-    (λ (x : (i < length views) × (get_elem? views i ≡ some v)). ⊎_elim
-    (λ (y : (j < length views) × (get_elem? views j ≡ some u)). h i j v u x.1 y.1 n lv lu)
-    (λ (y : (j ≡ length views) × (r ≡ u)). subst (λ (z : ClaimView). is_prefix v.branch z.branch ≡ false) y.1 (mine i v x.1 lv).1)
-    (at_new views r u j ej))
-    (λ (x : (i ≡ length views) × (r ≡ v)). ⊎_elim
-    (λ (y : (j < length views) × (get_elem? views j ≡ some u)). subst (λ (z : ClaimView). is_prefix z.branch u.branch ≡ false) x.1 (mine j u y.1 lu).0)
-    (λ (y : (j ≡ length views) × (r ≡ u)). absurd (n (x.0 ∙ sym y.0)))
-    (at_new views r u j ej))
-    (at_new views r v i ei)
+apart_end views r h mine = pairs_end Parted views r h (λ j u e. (λ _ lu. (mine j u e lu).0, λ lu _. (mine j u e lu).1))
 
 -- a side of a branch is apart from what the branch was apart from
 pub side_apart : (b o : List Bool) (x : Bool) → is_prefix b o ≡ false → is_prefix o b ≡ false → (is_prefix (b ++ x ∷ []) o ≡ false) × (is_prefix o (b ++ x ∷ []) ≡ false)

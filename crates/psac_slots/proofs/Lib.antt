@@ -10,3 +10,4 @@ pub mod Pairs
 pub mod Dividing
 pub mod Kept
 pub mod Given
+pub mod Tables

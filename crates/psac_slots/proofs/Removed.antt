@@ -1,5 +1,5 @@
 -- Lists of handles from which a slot is taken, and words of handles.
-use Rattle.std.proofs.Common.{◌≡◌, ◌≢◌, ℕ, zero, suc, ◌+◌, ◌/◌, ◌%◌, ◌<◌, ◌≤◌, List, [], ◌∷◌, ◌++◌, length, Bool, true, false, cond, ltb, refl, sym, ap, ◌∙◌, inl, inr, ⊎_elim, arith, length-append}
+use Rattle.std.proofs.Common.{◌≡◌, ◌≢◌, ℕ, zero, suc, ◌+◌, ◌/◌, ◌%◌, ◌<◌, ◌≤◌, List, [], ◌∷◌, length, Bool, true, false, cond, ltb, refl, sym, ap, ◌∙◌, inl, inr, ⊎_elim, arith, length-append}
 use Rattle.std.specs.Prelude.{◌==◌, not, All}
 use Rattle.std.proofs.lemmas.List.Sums.{sum_by-cons, sum_by_push}
 use Rattle.std.proofs.lemmas.Bool.{eq-eqb, eqb-true, ne_eqb, le-ltb}
@@ -8,7 +8,7 @@ use Rattle.std.proofs.lemmas.List.Elements.{All-push}
 use mathlib.Core.Option.{some}
 use lib.ListN.{get_elem?}
 use Rattle.psac_ops.specs.declared.plain.Handle.{Handle}
-use Rattle.psac_slots.specs.Handles.{Member, word_of, IsHandle, fresh, slot_times, IsDistinct, removed, once_below}
+use Rattle.psac_slots.specs.Handles.{Member, word_of, IsHandle, fresh, slot_times, removed, once_below}
 use Rattle.psac_slots.specs.Claiming.{entry}
 use Rattle.psac_slots.proofs.Sums.{bit, once_below_more}
 
@@ -71,13 +71,6 @@ at_most_once k n = below (ltb k n)
     below : (b : Bool) → cond b 1 0 ≤ 1
     below true = omega arith
     below false = omega arith
-
--- the last of a list without doubles is not among the others
-pub last_new : (xs : List Handle) (a : Handle) → IsDistinct (xs ++ a ∷ []) → slot_times a.slot xs ≡ 0
-last_new xs a d =
-    let p = sum_by_push (λ (h : Handle). cond (h.slot == a.slot) 1 0) xs a in
-    let x : bit (a.slot == a.slot) ≡ 1 = ap bit (eq-eqb a.slot a.slot refl) in
-    omega (arith, p, x, d a.slot)
 
 pub length-fresh : (n : ℕ) → length (fresh n) ≡ n
 length-fresh zero = refl

@@ -1,5 +1,5 @@
 -- What a pass of values carries after each step, and what it reads.
-use Rattle.std.proofs.Common.{◌≡◌, ◌≢◌, ◌⊎◌, ℕ, zero, suc, ◌+◌, ◌-◌, ◌*◌, ◌/◌, ◌%◌, ◌<◌, ◌≤◌, List, [], ◌∷◌, ◌++◌, map, length, set, take, drop, Bool, true, false, true≢false, cond, refl, sym, ap, ◌∙◌, subst, inl, inr, ⊎_elim, arith, Option, Some, None, length-append}
+use Rattle.std.proofs.Common.{◌≡◌, ◌≢◌, ◌⊎◌, ℕ, suc, ◌+◌, ◌-◌, ◌*◌, ◌/◌, ◌%◌, ◌<◌, ◌≤◌, List, [], ◌∷◌, ◌++◌, map, length, set, take, Bool, true, false, cond, refl, sym, ap, ◌∙◌, subst, inl, inr, ⊎_elim, arith, Option, Some, None, length-append}
 use Rattle.psac_values.proofs.Terms.{filter, not, ◌==◌, length-map, map-append, cases_lt, eq-eqb, ne_eqb, cases_Bool, sum_by_push, bit, member_times, claimed_entry, some, get_elem?, Handle, stem, Member, slot_times, later, removed, stays, goes, lends, above, comes_back, member_left, member_right, member_cases, member_filter, filter_member, member_map, map_member, rest_is, OwnedView, KnownView, StateView, ValueView, handle_of, value_at, out_word, ways, Meeting, Tells, looked, put, wrote_word, mark, marked, drew, new_owned, new_state, left_of, right_of, joined, learned, rewound, gave, other_owned, other_state, Knows, all_words, rewritten, took, United, IsOut, Carries, same_slot, filtered, found}
 use Rattle.psac_slots.specs.Claiming as claiming
 use Rattle.psac_slots.proofs.Carrying as ring
@@ -29,6 +29,10 @@ module _ (fixed count head room words : ℕ) (v : ValueView) (p : Carries fixed 
     mine = mine;
     known = known;
   }
+
+  -- so does a view that is this one, of a table of that size
+  pub carried : (size : ℕ) (w : ValueView) → size ≡ words → w ≡ v → Carries fixed count head room size w
+  carried size w e f = subst (λ (x : ℕ × ValueView). Carries fixed count head room x.0 x.1) (λ j. (sym e j, sym f j)) p
 
   pub carries_looked : Carries fixed count head room words (looked v)
   carries_looked = renewed (looked v) refl refl refl refl refl p.settled p.held_is p.out p.mine p.known

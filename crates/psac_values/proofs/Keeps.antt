@@ -1,20 +1,15 @@
 -- Each step of one pass keeps the rule of values.
 use Rattle.std.proofs.Common.{◌≡◌, ◌≢◌, ℕ, zero, suc, ◌+◌, ◌-◌, ◌%◌, ◌^◌, ◌<◌, ◌≤◌, List, [], ◌∷◌, ◌++◌, map, length, set, drop, true, cond, refl, sym, ap, ◌∙◌, subst, inl, inr, ⊎_elim, arith, Option, Some, None, length-set}
-use Rattle.psac_values.proofs.Terms.{sum_by, ◌==◌, IfSome, map-set, map-append, sum_by-append, eq-eqb, ne_eqb, cases_eq, le-ltb, cases_lt, some, some-ne-none, some-injective, get_elem?, at_map, at_set, set_here, set_else, set_again, Handle, Member, slot_times, once_below, ClaimView, Rights, Divided, bit, sum_set, sum_at, sum_two, all_set, member_cases, member_map, map_member, entry_at, later_member, member_times, at_most_once, changes, Unknown, OwnedView, KnownView, StateView, ValueView, state_at, value_at, free_word, claims_of, handle_of, rights_of, ways, Whole, Stated, Meeting, Fits, held_times, Made, Valued, new_owned, new_state, drew, Lacks, put, wrote_word, mark, marked}
+use Rattle.psac_values.proofs.Terms.{at_mapped, same_some, undrawn_slot, first_same, sum_by, ◌==◌, IfSome, map-set, map-append, sum_by-append, eq-eqb, ne_eqb, cases_eq, some, some-ne-none, some-injective, get_elem?, at_map, at_set, set_here, set_else, set_again, Handle, Member, slot_times, ClaimView, Rights, Divided, sum_set, sum_at, sum_two, all_set, member_cases, member_map, map_member, entry_at, later_member, member_times, at_most_once, changes, Unknown, OwnedView, KnownView, StateView, ValueView, state_at, value_at, free_word, claims_of, handle_of, rights_of, ways, Whole, Stated, Meeting, Fits, held_times, Made, Valued, new_owned, new_state, drew, Lacks, put, wrote_word, mark, marked}
 use Rattle.psac_slots.specs.Claiming as claiming
 use Rattle.psac_slots.proofs.Keeps as laws
-use Rattle.psac_values.proofs.Words.{whole_else, stated_else, fits_else, fits_low, first_only, first_same}
+use Rattle.psac_values.proofs.Words.{whole_else, stated_else, fits_else, fits_low, first_only}
 
 no_words : (j x : ℕ) → get_elem? {A = Option ℕ} (None ∷ None ∷ None ∷ []) j ≡ some (Some x) → ⊥
 no_words zero x e = let q = some-injective None (Some x) e in absurd (cc)
 no_words (suc zero) x e = let q = some-injective None (Some x) e in absurd (cc)
 no_words (suc (suc zero)) x e = let q = some-injective None (Some x) e in absurd (cc)
 no_words (suc (suc (suc j))) x e = some-ne-none (Some x) (sym e)
-
-pub at_mapped : (vs : List ValueView) (j : ℕ) (r : Rights OwnedView KnownView) → get_elem? (map rights_of vs) j ≡ some r → (u : ValueView) × (get_elem? vs j ≡ some u) × (rights_of u ≡ r)
-at_mapped [] j r e = absurd (some-ne-none r (sym e))
-at_mapped (u ∷ vs) zero r e = (u, refl, some-injective (rights_of u) r e)
-at_mapped (u ∷ vs) (suc j) r e = at_mapped vs j r e
 
 pub back_again : (hs : List Handle) → map handle_of (map new_state hs) ≡ hs
 back_again [] = refl
@@ -47,16 +42,13 @@ put_whole fixed count i x s j words w is small low p = ⊎_elim
       long = length-set w.words j (Some x) ∙ p.long;
       low = p.low;
       stands = λ k y q. ⊎_elim
-          (λ (z : (k ≡ j) × (◌≡◌ {A = Option ℕ} (Some x) (Some y))). let here : value_at count w.of.slot k ≡ i = (λ n. value_at count (e n) (z.0 n)) ∙ sym is in ap (get_elem? (set words i x)) here ∙ (set_here words i x low ∙ ap some (some_same x y z.1)))
+          (λ (z : (k ≡ j) × (◌≡◌ {A = Option ℕ} (Some x) (Some y))). let here : value_at count w.of.slot k ≡ i = (λ n. value_at count (e n) (z.0 n)) ∙ sym is in ap (get_elem? (set words i x)) here ∙ (set_here words i x low ∙ ap some (same_some x y z.1)))
           (λ (z : (k ≢ j) × (get_elem? w.words k ≡ some (Some y))). set_else words i (value_at count w.of.slot k) x (λ m. z.0 (omega (arith, m, is, e))) ∙ p.stands k y z.1)
           (at_set w.words j k (Some x) (Some y) q);
     }))
     (λ (n : w.of.slot ≢ s). subst (λ b. Whole fixed count (set words i x) w.of (cond b (set w.words j (Some x)) w.words)) (sym (ne_eqb w.of.slot s n))
     (whole_else fixed count words i x w.of w.words (λ k l q. n (apart_places count w.of.slot s k j l small (q ∙ is))) p))
     (cases_eq w.of.slot s)
-  where
-    some_same : (a b : ℕ) → ◌≡◌ {A = Option ℕ} (Some a) (Some b) → a ≡ b
-    some_same a b e = cc
 
 pub made_more : (fixed : ℕ) (views after : List ValueView) (u : ValueView) → ((s : ℕ) → 0 < held_times s views → 0 < held_times s after) → Made fixed views u → Made fixed after u
 made_more fixed views after u grows m = record { mine = λ w has g. grows (w.of.slot - fixed) (m.mine w has g); known = λ e has g. grows (e.of.slot - fixed) (m.known e has g) }
@@ -64,11 +56,7 @@ made_more fixed views after u grows m = record { mine = λ w has g. grows (w.of.
 module _ (fixed count c head : ℕ) (list : List Handle) (words : List ℕ) (views : List ValueView) (h : Valued fixed count c head list words views) where
   -- an undrawn slot is a slot of the table, and nobody holds it
   pub undrawn : (x : Handle) → Member x (drop c list) → (held_times x.slot views ≡ 0) × (x.slot < count)
-  undrawn x m =
-      let a = member_times x (drop c list) m in
-      let s = h.claims.slots x.slot in
-      let o = at_most_once x.slot count in
-      (omega (arith, a, s, o), ⊎_elim (λ l. l) (λ (g : count ≤ x.slot). let z : once_below x.slot count ≡ 0 = ap bit (le-ltb x.slot count g) in absurd (omega (arith, a, s, z))) (cases_lt x.slot count))
+  undrawn = undrawn_slot count c head list words (map claims_of views) h.claims
 
   -- what nobody holds, nobody has
   pub lacks : (s : ℕ) → held_times s views ≡ 0 → (j : ℕ) (u : ValueView) → get_elem? views j ≡ some u → Lacks u (fixed + s)
@@ -168,7 +156,7 @@ module _ (fixed count c head : ℕ) (list : List Handle) (words : List ℕ) (vie
           let f = h.each id v at in
           let es = claiming.entry v.claims.list c in
           let unknown : (x : Handle) → Member x es → Unknown ways (map rights_of views) (new_owned v.fixed x) = λ x m j r e.
-          let q = at_mapped views j r e in
+          let q = at_mapped rights_of views j r e in
           let l = subst (λ k. Lacks q.0 (k + x.slot)) (sym fixed_is) (lacks x.slot (undrawn x (drawn_now x m)).0 j q.0 q.1) in
           subst (λ (z : Rights OwnedView KnownView). ((y : OwnedView) → Member y z.alone → y.of.slot ≢ v.fixed + x.slot) × ((y : KnownView) → Member y z.shared → y.of.slot ≢ v.fixed + x.slot)) q.2 (l.mine, l.known) in
           let more : (s : ℕ) → slot_times s v.claims.held ≤ slot_times s w.claims.held = λ s. let a = sum_by-append (λ (z : Handle). cond (z.slot == s) 1 0) v.claims.held es in omega (arith, a) in

@@ -1,18 +1,11 @@
 -- The words at the start meet the rule of values.
-use Rattle.std.proofs.Common.{◌≡◌, ℕ, zero, suc, ◌+◌, ◌*◌, ◌<◌, ◌≤◌, List, [], ◌∷◌, ◌++◌, map, length, refl, sym, ap, ◌∙◌, subst, ⊎_elim, arith, Option, Some, length-append}
-use Rattle.psac_values.proofs.Terms.{length-map, cases_lt, at_longer, some, some-ne-none, some-injective, get_elem?, Handle, Member, word_of, fresh, Own, Rights, length-fresh, at_new, member_cases, OwnedView, KnownView, ValueView, state_at, value_at, rights_of, ways, Whole, Fits, Made, Valued, first_mine, first_view, repeated, first_words, Carries}
+use Rattle.std.proofs.Common.{◌≡◌, ℕ, zero, suc, ◌+◌, ◌*◌, ◌<◌, ◌≤◌, [], ◌∷◌, ◌++◌, map, length, refl, sym, ap, ◌∙◌, subst, ⊎_elim, arith, Option, Some, length-append}
+use Rattle.psac_values.proofs.Terms.{at_past, fresh_at, ring_length, cases_lt, at_longer, some, some-ne-none, some-injective, get_elem?, Member, word_of, fresh, Own, Rights, length-fresh, member_cases, OwnedView, KnownView, ValueView, state_at, value_at, rights_of, ways, Whole, Fits, Made, Valued, first_mine, first_view, repeated, first_words, Carries}
 use Rattle.psac_slots.proofs.Opens as slots
 
 pub length-repeated : (x n : ℕ) → length (repeated x n) ≡ n
 length-repeated x zero = refl
 length-repeated x (suc n) = let a = length-append (repeated x n) (x ∷ []) in let b = length-repeated x n in omega (arith, a, b)
-
-at_past : {A : Type 0} (l m : List A) (k : ℕ) → get_elem? (l ++ m) (length l + k) ≡ get_elem? m k
-at_past {A} [] m k = ap (λ i. get_elem? {A = A} m i) (omega arith)
-at_past {A} (x ∷ l) m k = ap (λ i. get_elem? {A = A} (x ∷ (l ++ m)) i) (one_up (length l) k) ∙ at_past l m k
-  where
-    one_up : (n k : ℕ) → suc n + k ≡ suc (n + k)
-    one_up n k = omega arith
 
 at_repeated : (x n k : ℕ) → k < n → get_elem? (repeated x n) k ≡ some x
 at_repeated x zero k l = absurd (omega (arith, l))
@@ -20,13 +13,6 @@ at_repeated x (suc n) k l = ⊎_elim
     (λ (s : k < n). at_longer (repeated x n) (x ∷ []) k x (at_repeated x n k s))
     (λ (g : n ≤ k). let is : k ≡ length (repeated x n) + 0 = let a = length-repeated x n in omega (arith, a, l, g) in ap (get_elem? (repeated x n ++ x ∷ [])) is ∙ at_past (repeated x n) (x ∷ []) 0)
     (cases_lt k n)
-
-fresh_at : (n k : ℕ) (x : Handle) → get_elem? (fresh n) k ≡ some x → (x.slot < n) × (x.generation ≡ 1)
-fresh_at zero k x e = absurd (some-ne-none x (sym e))
-fresh_at (suc n) k x e = ⊎_elim
-    (λ (p : (k < length (fresh n)) × (get_elem? (fresh n) k ≡ some x)). let q = fresh_at n k x p.1 in let l = q.0 in (omega (arith, l), q.1))
-    (λ (p : (k ≡ length (fresh n)) × (record { slot = n; generation = 1 } ≡ x)). (let s = ap (λ (h : Handle). h.slot) p.1 in omega (arith, s), sym (ap (λ (h : Handle). h.generation) p.1)))
-    (at_new (fresh n) (record { slot = n; generation = 1 }) x k e)
 
 mine_at : (n : ℕ) (w : OwnedView) → Member w (first_mine n) → (s : ℕ) × (s < n) × (record { of = record { slot = s; generation = 0 }; words = Some 0 ∷ Some 0 ∷ Some 0 ∷ [] } ≡ w)
 mine_at zero w m = absurd m
@@ -42,17 +28,14 @@ zero_word (suc (suc zero)) x e = (omega arith, let q = some-injective (Some 0) (
 zero_word (suc (suc (suc j))) x e = absurd (some-ne-none (Some x) (sym e))
 
 module _ (fixed count : ℕ) (fits : fixed + count < 4294967296) where
-  ring_length : length (map word_of (fresh count)) ≡ count
-  ring_length = let a = length-map (fresh count) word_of in let b = length-fresh count in omega (arith, a, b)
-
   state_is : (s : ℕ) → s < count → get_elem? (first_words fixed count) (state_at count s) ≡ some 2
   state_is s l =
-      let is : count + s ≡ length (map word_of (fresh count)) + s = let a = ring_length in omega (arith, a) in
+      let is : count + s ≡ length (map word_of (fresh count)) + s = let a = ring_length count in omega (arith, a) in
       ap (get_elem? (map word_of (fresh count) ++ (repeated 2 count ++ repeated 0 (3 * (fixed + count))))) is ∙ (at_past (map word_of (fresh count)) (repeated 2 count ++ repeated 0 (3 * (fixed + count))) s ∙ at_longer (repeated 2 count) (repeated 0 (3 * (fixed + count))) s 2 (at_repeated 2 count s l))
 
   value_is : (s j : ℕ) → s < fixed → j < 3 → get_elem? (first_words fixed count) (value_at count s j) ≡ some 0
   value_is s j l m =
-      let is : count + (count + (3 * s + j)) ≡ length (map word_of (fresh count)) + (length (repeated 2 count) + (3 * s + j)) = let a = ring_length in let b = length-repeated 2 count in omega (arith, a, b) in
+      let is : count + (count + (3 * s + j)) ≡ length (map word_of (fresh count)) + (length (repeated 2 count) + (3 * s + j)) = let a = ring_length count in let b = length-repeated 2 count in omega (arith, a, b) in
       ap (get_elem? (map word_of (fresh count) ++ (repeated 2 count ++ repeated 0 (3 * (fixed + count))))) is
       ∙ (at_past (map word_of (fresh count)) (repeated 2 count ++ repeated 0 (3 * (fixed + count))) (length (repeated 2 count) + (3 * s + j))
       ∙ (at_past (repeated 2 count) (repeated 0 (3 * (fixed + count))) (3 * s + j) ∙ at_repeated 0 (3 * (fixed + count)) (3 * s + j) (omega (arith, l, m))))
@@ -61,7 +44,7 @@ module _ (fixed count : ℕ) (fits : fixed + count < 4294967296) where
   length_first =
       let a = length-append (map word_of (fresh count)) (repeated 2 count ++ repeated 0 (3 * (fixed + count))) in
       let b = length-append (repeated 2 count) (repeated 0 (3 * (fixed + count))) in
-      omega (arith, a, b, ring_length, length-repeated 2 count, length-repeated 0 (3 * (fixed + count)))
+      omega (arith, a, b, ring_length count, length-repeated 2 count, length-repeated 0 (3 * (fixed + count)))
 
   pub opens : Valued fixed count 0 0 (fresh count) (first_words fixed count) (first_view fixed count ∷ [])
   opens =

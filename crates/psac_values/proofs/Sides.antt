@@ -1,9 +1,9 @@
 -- Splits and joins keep the rule of values.
 use Rattle.std.proofs.Common.{◌≡◌, ◌≢◌, ◌⊎◌, ℕ, ◌+◌, ◌-◌, ◌<◌, ◌≤◌, List, [], ◌∷◌, ◌++◌, map, length, set, Bool, true, false, true≢false, refl, sym, ap, ◌∙◌, subst, inl, inr, ⊎_elim, arith}
-use Rattle.psac_values.proofs.Terms.{sum_by, filter, ◌==◌, cond, map-set, map-append, sum_by-append, sum_by_push, some, get_elem?, at_map, set_else, Handle, is_prefix, stem, Member, slot_times, ClaimView, Divided, Rights, stays, goes, lends, above, comes_back, no_rights, sum_set, all_set, member_cases, member_filter, member_map, one_after, divides, unites, meets, OwnedView, KnownView, ValueView, claims_of, handle_of, rights_of, ways, Whole, Fits, held_times, Made, Valued, now_known, left_of, right_of, met, joined, spent}
+use Rattle.psac_values.proofs.Terms.{at_mapped, sum_by, filter, ◌==◌, cond, map-set, map-append, sum_by-append, sum_by_push, some, get_elem?, at_map, set_else, Handle, is_prefix, stem, Member, slot_times, ClaimView, Divided, Rights, stays, goes, lends, above, comes_back, no_rights, sum_set, all_set, member_cases, member_filter, member_map, one_after, divides, unites, meets, OwnedView, KnownView, ValueView, claims_of, handle_of, rights_of, ways, Whole, Fits, held_times, Made, Valued, now_known, left_of, right_of, met, joined, spent}
 use Rattle.psac_slots.specs.Claiming as claiming
 use Rattle.psac_slots.proofs.Keeps as laws
-use Rattle.psac_values.proofs.Keeps.{at_mapped, made_more, held_after}
+use Rattle.psac_values.proofs.Keeps.{made_more, held_after}
 
 module _ (fixed count c head : ℕ) (list : List Handle) (words : List ℕ) (views : List ValueView) (h : Valued fixed count c head list words views) where
   strangers : (id j : ℕ) (v u : ValueView) → get_elem? views id ≡ some v → get_elem? views j ≡ some u → j ≢ id → v.claims.live ≡ true → u.claims.live ≡ true
@@ -44,7 +44,7 @@ module _ (fixed count c head : ℕ) (list : List Handle) (words : List ℕ) (vie
           rights = subst (Divided ways) (sym (map-append rights_of (set views id l) (r ∷ []) ∙ ap (λ z. z ++ rights_of r ∷ []) (map-set rights_of views id l)))
               (subst (λ t. Divided ways (set (map rights_of views) id (rights_of l) ++ record { live = t; branch = v.claims.branch ++ true ∷ []; alone = r.mine; shared = r.known } ∷ [])) live
               (divides ways shared to_right (map rights_of views) id (rights_of v) h.rights (at_map rights_of views id v at) live
-              (λ j s n e ls. let q = at_mapped views j s e in subst (λ (z : Rights OwnedView KnownView). (is_prefix v.claims.branch z.branch ≡ false) × (is_prefix z.branch v.claims.branch ≡ false)) q.2
+              (λ j s n e ls. let q = at_mapped rights_of views j s e in subst (λ (z : Rights OwnedView KnownView). (is_prefix v.claims.branch z.branch ≡ false) × (is_prefix z.branch v.claims.branch ≡ false)) q.2
               (strangers id j v q.0 at q.1 n live (ap (λ (z : Rights OwnedView KnownView). z.live) q.2 ∙ ls)))));
           each = one_after (Fits fixed count words) views id l r h.each
               record {
@@ -99,7 +99,7 @@ module _ (fixed count c head : ℕ) (list : List Handle) (words : List ℕ) (vie
               (laws.joins_at count c head list words (map claims_of views) h.claims id other v.claims w.claims b (at_map claims_of views id v at) (at_map claims_of views other w was) two live alive lb rb);
           rights = subst (Divided ways) (sym (map-set rights_of mid other spent ∙ ap (λ z. set z other no_rights) (map-set rights_of views id m)))
               (unites ways (map rights_of views) id other (rights_of v) (rights_of w) b h.rights (at_map rights_of views id v at) (at_map rights_of views other w was) two live alive lb rb
-              (λ j s n o e ls. let q = at_mapped views j s e in subst (λ (z : Rights OwnedView KnownView). ((is_prefix v.claims.branch z.branch ≡ false) × (is_prefix z.branch v.claims.branch ≡ false)) × ((is_prefix w.claims.branch z.branch ≡ false) × (is_prefix z.branch w.claims.branch ≡ false))) q.2
+              (λ j s n o e ls. let q = at_mapped rights_of views j s e in subst (λ (z : Rights OwnedView KnownView). ((is_prefix v.claims.branch z.branch ≡ false) × (is_prefix z.branch v.claims.branch ≡ false)) × ((is_prefix w.claims.branch z.branch ≡ false) × (is_prefix z.branch w.claims.branch ≡ false))) q.2
               (let lu = ap (λ (z : Rights OwnedView KnownView). z.live) q.2 ∙ ls in (strangers id j v q.0 at q.1 n live lu, strangers other j w q.0 was q.1 o alive lu))));
           each = all_set (λ _ u. Fits fixed count words u) mid other spent
               record { fixed_is = λ (e : false ≡ true). absurd (true≢false (sym e)); mine = λ z q. absurd q; known = λ z q. absurd q; states = λ z q. absurd q; held_is = refl; met = tt }

@@ -1,20 +1,10 @@
 -- The steps of a sole pass keep the rule of values.
-use Rattle.std.proofs.Common.{◌≡◌, ◌≢◌, ℕ, zero, suc, ◌+◌, ◌-◌, ◌*◌, ◌<◌, ◌≤◌, List, [], ◌∷◌, ◌++◌, map, length, set, take, drop, true, false, true≢false, refl, sym, ap, ◌∙◌, subst, inl, ⊎_elim, arith, Some, length-set, mod-lt}
-use Rattle.psac_values.proofs.Terms.{◌==◌, eq-eqb, lt-ltb, some, get_elem?, at_map, set_else, Handle, Member, word_of, later, slot_times, removed, once_below, ClaimView, bit, at_drop, at_new, member_filter, filtered, found, removed_else, changes, off, KnownView, StateView, ValueView, state_at, free_word, claims_of, handle_of, rights_of, ways, held_times, Made, Valued, learned, rewound, other_owned, other_state, gave}
+use Rattle.std.proofs.Common.{◌≡◌, ◌≢◌, ℕ, ◌+◌, ◌-◌, ◌*◌, ◌<◌, ◌≤◌, List, [], ◌∷◌, ◌++◌, map, length, set, take, drop, true, false, true≢false, refl, sym, ap, ◌∙◌, subst, inl, ⊎_elim, arith, Some, length-set, mod-lt}
+use Rattle.psac_values.proofs.Terms.{none_in, dropped_at, ◌==◌, eq-eqb, lt-ltb, some, get_elem?, at_map, set_else, Handle, Member, word_of, later, slot_times, removed, once_below, ClaimView, bit, at_drop, at_new, member_filter, filtered, found, removed_else, changes, off, KnownView, StateView, ValueView, state_at, free_word, claims_of, handle_of, rights_of, ways, held_times, Made, Valued, learned, rewound, other_owned, other_state, gave}
 use Rattle.psac_slots.specs.Claiming as claiming
 use Rattle.psac_slots.proofs.Rewinds as turns
 use Rattle.psac_values.proofs.Words.{whole_else, stated_else, fits_low}
 use Rattle.psac_values.proofs.Keeps.{at_claims, at_rights, held_after, step_to, same_rights, grows}
-
-none_in : {A : Type 0} (l : List A) → ((x : A) → Member x l → ⊥) → l ≡ []
-none_in [] f = refl
-none_in (x ∷ l) f = absurd (f x (inl refl))
-
-pub dropped_at : (l : List Handle) (c : ℕ) (x : Handle) → Member x (drop c l) → (k : ℕ) × (c ≤ k) × (get_elem? l k ≡ some x)
-dropped_at [] zero x m = absurd m
-dropped_at [] (suc c) x m = absurd m
-dropped_at (y ∷ l) zero x m = ⊎_elim (λ e. (0, omega arith, ap some e)) (λ r. let q = dropped_at l zero x r in (suc q.0, omega arith, q.2)) m
-dropped_at (y ∷ l) (suc c) x m = let q = dropped_at l c x m in let le = q.1 in (suc q.0, omega (arith, le), q.2)
 
 module _ (fixed count c head : ℕ) (list : List Handle) (words : List ℕ) (views : List ValueView) (h : Valued fixed count c head list words views) (id : ℕ) (v : ValueView) (at : get_elem? views id ≡ some v) (live : v.claims.live ≡ true) (empty : v.claims.branch ≡ []) where
   mine_at : get_elem? (map claims_of views) id ≡ some v.claims

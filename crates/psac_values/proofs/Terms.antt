@@ -16,6 +16,7 @@ pub use Rattle.psac_slots.proofs.Pairs.{entry_at, filter_member, later_member, m
 pub use Rattle.psac_slots.proofs.Removed.{at_most_once, claimed_entry, found, length-fresh, member_times, removed_else}
 pub use Rattle.psac_slots.proofs.Rewinds.{gone_is, rest_is}
 pub use Rattle.psac_slots.proofs.Sums.{all_set, at_drop, at_less, at_new, bit, sum_at, sum_set, sum_two}
+pub use Rattle.psac_slots.proofs.Tables.{at_mapped, at_past, dropped_at, first_same, fresh_at, handle_at, none_in, one_more, past_entry, place_is, ring_length, same_some, twice, undrawn as undrawn_slot, within}
 pub use Rattle.psac_slots.specs.Branches.{is_prefix, stem}
 pub use Rattle.psac_slots.specs.Claiming.{Accounted, IsSole, counted, entry, place, turned}
 pub use Rattle.psac_slots.specs.Divided.{Divided, Own, Rights, above, comes_back, goes, lends, no_rights, stays}

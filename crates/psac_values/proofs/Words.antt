@@ -1,5 +1,5 @@
 -- Stores beside the words of a view, and entries of a free list.
-use Rattle.std.proofs.Common.{◌≡◌, ◌≢◌, ℕ, ◌<◌, ◌≤◌, List, [], ◌∷◌, set, take, sym, ◌∙◌, inl, ⊎_elim, arith, Option, Some}
+use Rattle.std.proofs.Common.{◌≢◌, ℕ, ◌<◌, ◌≤◌, List, [], ◌∷◌, set, take, ◌∙◌, inl, ⊎_elim, arith, Option, Some}
 use Rattle.psac_values.proofs.Terms.{set_else, Handle, Member, at_less, OwnedView, KnownView, StateView, ValueView, state_at, value_at, Whole, Stated, Fits}
 
 module _ (fixed count : ℕ) (words : List ℕ) (i x : ℕ) where
@@ -35,7 +35,3 @@ module _ (fixed count : ℕ) (words : List ℕ) (i x : ℕ) where
 pub first_only : {A : Type 0} (x : A) (l : List A) → Member x (take 1 l) → Member x l
 first_only x [] m = m
 first_only x (y ∷ l) m = ⊎_elim (λ e. inl e) (λ b. absurd b) m
-
-pub first_same : {A : Type 0} (x y : A) (l : List A) → Member x (take 1 l) → Member y (take 1 l) → x ≡ y
-first_same x y [] m n = absurd m
-first_same x y (z ∷ l) m n = ⊎_elim (λ e. ⊎_elim (λ f. sym e ∙ f) (λ b. absurd b) n) (λ b. absurd b) m

@@ -1,7 +1,8 @@
-use Rattle.std.proofs.Common.{ℕ, List, ◌≢◌, ◌<◌, ◌≤◌, ◌-◌, sym, ap, subst, ◌∙◌, arith}
-use Rattle.psac_readers.proofs.Terms.{sum_by, ReadersView, Each, Fine, Walks, has_word, named, deads, settled, chain_of}
+use Rattle.std.proofs.Common.{◌≡◌, length, ℕ, List, ◌≢◌, ◌<◌, ◌≤◌, ◌-◌, sym, ap, subst, ◌∙◌, arith}
+use Rattle.psac_readers.proofs.Terms.{from_word, next_live, sum_by, ReadersView, Each, Fine, Walks, has_word, named, deads, settled, chain_of}
 use Rattle.psac_readers.proofs.Acts.{loads}
 use Rattle.psac_readers.proofs.Walking.{Turn, turn, turn_live, turn_dead, turn_settled}
+use Rattle.psac_readers.proofs.readers.live_from.Given as given
 use Rattle.psac_readers.proofs.readers.live_from.Goals as goal
 
 -- the turn at a word of the chain
@@ -59,8 +60,10 @@ load-word-requires g c =
     let d = c.load-dead.ensures in
     (d.0 ∙ (i.0 ∙ tab), omega (arith, t.low, c.requires.1.1.1.0, ap (λ z. z.words) tab), loads _ _ _ _ c.load-dead.new.seat.me.0 c.load-dead.new.seat.me.1 (ap (λ m. m.0.claims.live) (d.2.same ∙ i.1) ∙ c.requires.1.1.1.1.0) _)
 
-pub loop-word-smaller : goal.loop-word-smaller
-loop-word-smaller g c =
+-- a turn at a dead link goes on with what comes behind it
+goes_on : (g : given.Over) (c : goal.After-load-word g) → has_word c.load-word.result g.chain × (next_live c.args.seat.now.me.0.links (from_word c.load-word.result g.chain) ≡ next_live c.args.seat.now.me.0.links (from_word c.loop-word.word g.chain))
+    × (length (from_word c.load-word.result g.chain) < length (from_word c.loop-word.word g.chain))
+goes_on g c =
     let i = c.loop-word.invariant in
     let v = c.args.seat.now.me.0 in
     let k = c.requires.1.1.1.1.1.1.0 in
@@ -78,28 +81,15 @@ loop-word-smaller g c =
     let mi2 = ap (λ m. m.0.mods) e2 in
     let front_is = c.load-word.ensures.2.next (c.loop-word.word - 1) k.0 g.chain (let a = k.1.0 in omega (arith, a, mi2)) (omega (arith, li, mi, li2, mi2)) (ap (λ m. chain_of k.0 m.0.walk) e2 ∙ k.1.1) t.on (subst (λ m. 0 < sum_by (settled (c.loop-word.word - 1)) m.0.links) (sym e2) (turn_settled c.args.links v c.loop-word.word g.chain t fine)) in
     let once = subst (λ m. sum_by (named (c.loop-word.word - 1)) m.0.links ≤ 1) e (d.2.once (c.loop-word.word - 1)) in
-    let r = turn_dead c.args.links v k.0 c.loop-word.word c.load-dead.result g.chain k.1.2 t fine once told c.if-dead-eq0.false c.load-word.result front_is in
-    r.2
+    turn_dead c.args.links v k.0 c.loop-word.word c.load-dead.result g.chain k.1.2 t fine once told c.if-dead-eq0.false c.load-word.result front_is
+
+pub loop-word-smaller : goal.loop-word-smaller
+loop-word-smaller g c = (goes_on g c).2
 
 pub loop-word-preserved : goal.loop-word-preserved
 loop-word-preserved g c =
     let i = c.loop-word.invariant in
-    let v = c.args.seat.now.me.0 in
-    let k = c.requires.1.1.1.1.1.1.0 in
-    let t = turn c.args.links v k.0 c.loop-word.word g.chain k.1.2 c.requires.1.1.1.1.1.0 c.loop-word-test.true i.2 in
-    let li = c.requires.1.0 in
-    let mi = c.requires.1.1.0 in
-    let fine = c.requires.1.1.1.1.1.0 in
     let d = c.load-dead.ensures in
-    let e = i.1 in
-    let li1 = ap (λ m. m.0.claims.count) e in
-    let mi1 = ap (λ m. m.0.mods) e in
-    let told = d.2.dead (c.loop-word.word - 1) (omega (arith, li, mi, li1, mi1)) (subst (λ m. 0 < sum_by (named (c.loop-word.word - 1)) m.0.links) (sym e) t.own) ∙ ap (λ m. sum_by (deads (c.loop-word.word - 1)) m.0.links) e in
-    let e2 = d.2.same ∙ e in
-    let li2 = ap (λ m. m.0.claims.count) e2 in
-    let mi2 = ap (λ m. m.0.mods) e2 in
     let n = c.load-word.ensures in
-    let front_is = n.2.next (c.loop-word.word - 1) k.0 g.chain (let a = k.1.0 in omega (arith, a, mi2)) (omega (arith, li, mi, li2, mi2)) (ap (λ m. chain_of k.0 m.0.walk) e2 ∙ k.1.1) t.on (subst (λ m. 0 < sum_by (settled (c.loop-word.word - 1)) m.0.links) (sym e2) (turn_settled c.args.links v c.loop-word.word g.chain t fine)) in
-    let once = subst (λ m. sum_by (named (c.loop-word.word - 1)) m.0.links ≤ 1) e (d.2.once (c.loop-word.word - 1)) in
-    let r = turn_dead c.args.links v k.0 c.loop-word.word c.load-dead.result g.chain k.1.2 t fine once told c.if-dead-eq0.false c.load-word.result front_is in
-    (n.0 ∙ (d.0 ∙ i.0), n.2.same ∙ e2, r.0, r.1 ∙ i.3)
+    let r = goes_on g c in
+    (n.0 ∙ (d.0 ∙ i.0), n.2.same ∙ (d.2.same ∙ i.1), r.0, r.1 ∙ i.3)

@@ -1,7 +1,8 @@
-use Rattle.std.proofs.Common.{ℕ, suc, ◌+◌, ◌*◌, ◌%◌, ◌/◌, ◌∷◌, [], List, map, ◌≤◌, ◌<◌, ◌≡◌, length, sym, ap, subst, ◌∙◌, arith, mod-lt, refl, cond, ltb, zero, inl, Option, Some}
-use Rattle.psac_marks.proofs.Terms.{lt-ltb, Step, Handle, Member, entry, times, member_left, member_right, map_member, MarksView, parent_at, parent_word, state_at, out_word, places, Has, HasOwn, Seat, Drew, Loaded, Tells, Lacks, new_own, new_state, drew, hung, stated, Carries, slot_of, took}
+use Rattle.std.proofs.Common.{ℕ, suc, ◌+◌, ◌*◌, ◌%◌, ◌∷◌, [], List, map, ◌<◌, ◌≡◌, length, sym, ap, subst, ◌∙◌, arith, mod-lt, refl, inl, Option, Some}
+use Rattle.psac_marks.proofs.Terms.{one_more, handle_at, past_entry, within, Step, Member, entry, times, member_left, member_right, map_member, MarksView, parent_at, parent_word, state_at, out_word, places, Has, HasOwn, Seat, Drew, Loaded, Tells, Lacks, new_own, new_state, drew, hung, stated, Carries, slot_of, took}
 use Rattle.psac_marks.proofs.Acts.{draws, loads, hangs, states}
-use Rattle.psac_marks.proofs.Carrying.{carries_past, carries_took, took_is, found_here, drew_has, parent_has}
+use Rattle.psac_marks.proofs.Carrying.{carried, carries_past, carries_took, took_is, found_here, parent_has}
+use Rattle.psac_marks.proofs.Parts.{drew_has}
 use Rattle.psac_marks.proofs.marks.Marks.claim.Goals as goal
 
 pub fetch_add-index-requires : goal.fetch_add-index-requires
@@ -10,12 +11,6 @@ fetch_add-index-requires c =
     let p = c.pass.invariant.1 in
     let t = ap (λ p. p.table) is ∙ (c.requires.table ∙ sym c.self.view_is) in
     (t, omega (arith, ap (λ z. z.words) t, p.words_is), draws _ _ _ c.pass.inside.seat.me.0 c.pass.inside.seat.me.1 p.live (ap (λ p. p.knows.claims.over) is ∙ c.requires.room))
-
-past : (list : List Handle) (n : ℕ) → length list ≤ n → entry list n ≡ []
-past [] zero l = refl
-past [] (suc n) l = refl
-past (x ∷ list) zero l = absurd (omega (arith, l))
-past (x ∷ list) (suc n) l = past list n (omega (arith, l))
 
 pub load-word-requires : goal.load-word-requires
 load-word-requires c =
@@ -27,12 +22,6 @@ load-word-requires c =
     let k = c.from-2.ensures in
     let m = mod-lt (c.from.result + c.fetch_add-index.result) {m = c.from-2.result} (omega (arith, r, q, k, p.room_fits)) in
     (d.0 ∙ t, omega (arith, ap (λ z. z.words) t, p.words_is, m, k), loads _ _ _ c.fetch_add-index.new.seat.me.0 c.fetch_add-index.new.seat.me.1 (ap (λ m. m.0.claims.live) d.2.drawn ∙ p.live) _)
-
-one_more : (n : ℕ) → n + 1 ≡ suc n
-one_more n = omega arith
-
-abbrev handle_at : ℕ → Handle
-handle_at word = record { slot = word % 4294967296; generation = word / 4294967296 }
 
 -- what a claim has after the load: the word is the list's entry at the index, a node that the pass lacked
 record Got (me two : Seat) (n word : ℕ) : Type 0 where
@@ -115,27 +104,15 @@ invariant_of-pass c =
     let p = c.pass.invariant.1 in
     let v = c.pass.inside.seat.me.0 in
     let d = c.fetch_add-index.ensures in
-    let r = c.if-index-room.true in
-    let q = c.from-room.ensures in
-    let m = p.room_is in
-    let e = d.2.drawn in (
-      ap (λ m. m.1) e ∙ c.pass.invariant.0,
-      subst (λ (x : ℕ × MarksView). Carries c.pass.inside.nodes c.pass.inside.head c.pass.inside.room x.0 x.1) (λ j. (ap (λ z. z.words) (sym d.0) j, ap (λ m. m.0) (sym e) j))
-          (carries_past _ _ _ _ v p c.fetch_add-index.result (past v.claims.list c.fetch_add-index.result (omega (arith, r, q, m)))),
-    )
+    let none = past_entry v.claims.list c.fetch_add-index.result (omega (arith, c.if-index-room.true, c.from-room.ensures, p.room_is)) in
+    (ap (λ m. m.1) d.2.drawn ∙ c.pass.invariant.0, carried _ _ _ _ _ (carries_past _ _ _ _ v p c.fetch_add-index.result none) _ _ (ap (λ z. z.words) d.0) (ap (λ m. m.0) d.2.drawn))
 
 pub invariant_of-pass-2 : goal.invariant_of-pass-2
 invariant_of-pass-2 c =
-    let l = left c in (
-      ap (λ m. m.1) l.1 ∙ c.pass.invariant.0,
-      subst (λ (x : ℕ × MarksView). Carries c.pass.inside.nodes c.pass.inside.head c.pass.inside.room x.0 x.1)
-          (λ j. (ap (λ z. z.words) (sym (c.store-2.ensures.0 ∙ (c.store.ensures.0 ∙ (c.load-word.ensures.0 ∙ c.fetch_add-index.ensures.0)))) j, sym (ap (λ m. m.0) l.1) j))
-          (carries_took _ _ _ _ c.pass.inside.seat.me.0 c.pass.invariant.1 c.fetch_add-index.result (handle_at c.load-word.result) (slot_of c.args.parent) l.0.listed l.0.low),
-    )
-
--- a claim below the room leaves the pass with no index past it
-within : (n : ℕ) (over : ℕ) (list : List Handle) → n < length list → over ≡ 0 → over + cond (ltb n (length list)) 0 1 ≡ 0
-within n over list l e = rw (lt-ltb n (length list) l) (omega (arith, e))
+    let l = left c in
+    let t = c.store-2.ensures.0 ∙ (c.store.ensures.0 ∙ (c.load-word.ensures.0 ∙ c.fetch_add-index.ensures.0)) in
+    let k = carries_took _ _ _ _ c.pass.inside.seat.me.0 c.pass.invariant.1 c.fetch_add-index.result (handle_at c.load-word.result) (slot_of c.args.parent) l.0.listed l.0.low in
+    (ap (λ m. m.1) l.1 ∙ c.pass.invariant.0, carried _ _ _ _ _ k _ _ (ap (λ z. z.words) t) (ap (λ m. m.0) l.1))
 
 pub returns-clause-ok : goal.returns-clause-ok
 returns-clause-ok c =
@@ -161,7 +138,7 @@ returns-clause-kept c = let l = left c in ap (λ m. times (handle_at c.load-word
 pub returns-clause-room : goal.returns-clause-room
 returns-clause-room c =
     let o = returns-clause-ok c in
-    ap (λ (u : MarksView). u.claims.over) o.becomes ∙ within o.index c.args.pass.now.knows.claims.over c.args.pass.now.knows.claims.list o.low c.requires.room
+    ap (λ (u : MarksView). u.claims.over) o.becomes ∙ within o.index c.args.pass.now.knows.claims.over (length c.args.pass.now.knows.claims.list) o.low c.requires.room
 
 pub returns-clause-branch : goal.returns-clause-branch
 returns-clause-branch c = ap (λ (u : MarksView). u.claims.branch) (returns-clause-ok c).becomes

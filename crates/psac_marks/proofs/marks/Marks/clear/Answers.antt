@@ -1,10 +1,9 @@
-use Rattle.std.proofs.Common.{ℕ, ◌<◌, sym, ap, subst, ◌∙◌, arith}
-use Rattle.psac_marks.proofs.Terms.{Handle, MarksView, own_place, HasOwn, Carries, Owns, Bare}
-use Rattle.psac_marks.proofs.Parts.{place_own}
+use Rattle.std.proofs.Common.{ℕ, sym, ap, subst, ◌∙◌, arith}
+use Rattle.psac_marks.proofs.Terms.{MarksView, Carries, Bare}
 use Rattle.psac_marks.proofs.Keeps.{own_alone}
 use Rattle.psac_marks.proofs.Families.{bare_below}
 use Rattle.psac_marks.proofs.Acts.{clears}
-use Rattle.psac_marks.proofs.Carrying.{carries_cleared}
+use Rattle.psac_marks.proofs.Carrying.{own_low, carries_cleared}
 use Rattle.psac_marks.proofs.marks.Marks.clear.Goals as goal
 
 pub store-requires : goal.store-requires
@@ -14,15 +13,13 @@ store-requires c =
     let v = c.pass.inside.seat.me.0 in
     let x = c.args.node.slot in
     let t = ap (λ p. p.table) is ∙ (c.requires.table ∙ sym c.self.view_is) in
-    let o = subst (λ k. Owns k c.args.node) (sym (ap (λ p. p.knows) is)) c.requires.own in
-    let own : HasOwn v.own x = (o.0, o.1, ap (λ (h : Handle). h.slot) o.2) in
-    let low = subst (λ k. k < c.pass.inside.nodes) own.2 (p.low (own_place v.claims.branch o.0) (place_own v o.0 o.1)) in
+    let own = own_low _ _ _ _ v p c.args.node _ (ap (λ p. p.knows) is) c.requires.own in
     let n = p.nodes_is in
     let bare = subst (λ k. Bare k x) (sym (ap (λ p. p.knows) is)) c.requires.bare in (
       t,
-      omega (arith, ap (λ z. z.words) t, p.words_is, low),
-      clears _ _ _ v c.pass.inside.seat.me.1 p.live x _ (omega (arith, low, n))
-          (λ s h at. (own_alone _ s.words s.views h _ v at x own, bare_below _ s.words s.views h _ v at p.live x own bare)) (omega (arith, n)),
+      omega (arith, ap (λ z. z.words) t, p.words_is, own.1),
+      clears _ _ _ v c.pass.inside.seat.me.1 p.live x _ (omega (arith, own.1, n))
+          (λ s h at. (own_alone _ s.words s.views h _ v at x own.0, bare_below _ s.words s.views h _ v at p.live x own.0 bare)) (omega (arith, n)),
     )
 
 pub invariant_of-pass : goal.invariant_of-pass

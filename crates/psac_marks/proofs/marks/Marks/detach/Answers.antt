@@ -1,8 +1,7 @@
-use Rattle.std.proofs.Common.{ℕ, ◌<◌, sym, ap, subst, ◌∙◌, arith}
-use Rattle.psac_marks.proofs.Terms.{Handle, MarksView, own_place, HasOwn, Carries, Owns}
-use Rattle.psac_marks.proofs.Parts.{place_own}
+use Rattle.std.proofs.Common.{ℕ, sym, ap, subst, ◌∙◌, arith}
+use Rattle.psac_marks.proofs.Terms.{MarksView, Carries}
 use Rattle.psac_marks.proofs.Acts.{detaches}
-use Rattle.psac_marks.proofs.Carrying.{carries_detached}
+use Rattle.psac_marks.proofs.Carrying.{own_low, carries_detached}
 use Rattle.psac_marks.proofs.marks.Marks.detach.Goals as goal
 
 pub load-requires : goal.load-requires
@@ -12,11 +11,9 @@ load-requires c =
     let v = c.pass.inside.seat.me.0 in
     let x = c.args.node.slot in
     let t = ap (λ p. p.table) is ∙ (c.requires.table ∙ sym c.self.view_is) in
-    let o = subst (λ k. Owns k c.args.node) (sym (ap (λ p. p.knows) is)) c.requires.own in
-    let own : HasOwn v.own x = (o.0, o.1, ap (λ (h : Handle). h.slot) o.2) in
-    let low = subst (λ k. k < c.pass.inside.nodes) own.2 (p.low (own_place v.claims.branch o.0) (place_own v o.0 o.1)) in
+    let own = own_low _ _ _ _ v p c.args.node _ (ap (λ p. p.knows) is) c.requires.own in
     let n = p.nodes_is in
-    (t, omega (arith, ap (λ z. z.words) t, p.words_is, low), detaches _ _ _ v c.pass.inside.seat.me.1 p.live x _ own (omega (arith, n)))
+    (t, omega (arith, ap (λ z. z.words) t, p.words_is, own.1), detaches _ _ _ v c.pass.inside.seat.me.1 p.live x _ own.0 (omega (arith, n)))
 
 pub invariant_of-pass : goal.invariant_of-pass
 invariant_of-pass c =

@@ -1,8 +1,7 @@
 use Rattle.std.proofs.Common.{ℕ, zero, suc, ◌<◌, ◌≡◌, true≢false, sym, ap, subst, ◌∙◌, arith}
-use Rattle.psac_marks.proofs.Terms.{◌==◌, not, IsTrue, ne_eqb, Handle, times, MarksView, own_place, HasOwn, IsClosed, Carries, Owns}
-use Rattle.psac_marks.proofs.Parts.{place_own}
+use Rattle.psac_marks.proofs.Terms.{◌==◌, not, IsTrue, ne_eqb, Handle, times, MarksView, IsClosed, Carries, Owns}
 use Rattle.psac_marks.proofs.Acts.{asks}
-use Rattle.psac_marks.proofs.Carrying.{carries_asked}
+use Rattle.psac_marks.proofs.Carrying.{own_low, carries_asked}
 use Rattle.psac_marks.proofs.marks.Marks.is_marked.Goals as goal
 
 pub load-mark-requires : goal.load-mark-requires
@@ -10,12 +9,9 @@ load-mark-requires c =
     let is = c.pass.view_is in
     let p = c.pass.invariant.1 in
     let v = c.pass.inside.seat.me.0 in
-    let x = c.args.node.slot in
     let t = ap (λ p. p.table) is ∙ (c.requires.table ∙ sym c.self.view_is) in
-    let o = subst (λ k. Owns k c.args.node) (sym (ap (λ p. p.knows) is)) c.requires.own in
-    let own : HasOwn v.own x = (o.0, o.1, ap (λ (h : Handle). h.slot) o.2) in
-    let low = subst (λ k. k < c.pass.inside.nodes) own.2 (p.low (own_place v.claims.branch o.0) (place_own v o.0 o.1)) in
-    (t, omega (arith, ap (λ z. z.words) t, p.words_is, low), asks _ _ _ v c.pass.inside.seat.me.1 p.live _)
+    let own = own_low _ _ _ _ v p c.args.node _ (ap (λ p. p.knows) is) c.requires.own in
+    (t, omega (arith, ap (λ z. z.words) t, p.words_is, own.1), asks _ _ _ v c.pass.inside.seat.me.1 p.live _)
 
 pub invariant_of-pass : goal.invariant_of-pass
 invariant_of-pass c =

@@ -1,8 +1,9 @@
 use Rattle.std.proofs.Common.{◌≡◌, ◌<◌, ℕ, sym, ap, subst, ◌∙◌, arith, Option, None}
-use Rattle.psac_marks.proofs.Terms.{IfSome, set_else, Member, times, SharedView, MetView, MarksView, places, HasOwn, Meeting, joined, met, IsClosed, Carries, United}
+use Rattle.psac_marks.proofs.Terms.{IfSome, set_else, Member, times, SharedView, MetView, MarksView, places, HasOwn, Meeting, joined, met, IsClosed, United}
 use Rattle.psac_marks.proofs.Acts.{settles}
 use Rattle.psac_marks.proofs.Uniting.{joins_at, unites_views}
 use Rattle.psac_marks.proofs.Handed.{carries_joined}
+use Rattle.psac_marks.proofs.Carrying.{carried}
 use Rattle.psac_marks.proofs.marks.Marks.join.Goals as goal
 
 pub join_seat-requires : goal.join_seat-requires
@@ -35,13 +36,11 @@ invariant_of-result c =
     let p = c.left.invariant.1 in
     let e = l.2.settled ∙ ap (λ m. (record m.0 { met = None }, m.1)) j.2 in
     let k = p.nodes_is in
-    let b = ap (λ m. m.0.claims.count) j.2 in (
-      ap (λ m. m.1) e ∙ c.left.invariant.0,
-      subst (λ (x : ℕ × MarksView). Carries c.left.inside.nodes c.left.inside.head c.left.inside.room x.0 x.1) (λ i. (ap (λ z. z.words) (sym (l.0 ∙ j.0)) i, ap (λ m. m.0) (sym e) i))
-          (carries_joined _ _ _ _ c.left.inside.seat.me.0 p _ _ _ _ c.right.inside.seat.me.0 c.right.invariant.1
-          (λ x has. let a = l.2.tells.low x (subst (λ m. Member x (places m.0)) (sym j.2) has) in omega (arith, a, b, k))
-          (λ t has. let a = l.2.tells.state_low t (subst (λ m. Member t m.0.states) (sym j.2) has) in omega (arith, a, b, k))),
-    )
+    let b = ap (λ m. m.0.claims.count) j.2 in
+    let both = carries_joined _ _ _ _ c.left.inside.seat.me.0 p _ _ _ _ c.right.inside.seat.me.0 c.right.invariant.1
+    (λ x has. let a = l.2.tells.low x (subst (λ m. Member x (places m.0)) (sym j.2) has) in omega (arith, a, b, k))
+    (λ t has. let a = l.2.tells.state_low t (subst (λ m. Member t m.0.states) (sym j.2) has) in omega (arith, a, b, k)) in
+    (ap (λ m. m.1) e ∙ c.left.invariant.0, carried _ _ _ _ _ both _ _ (ap (λ z. z.words) (l.0 ∙ j.0)) (ap (λ m. m.0) e))
 
 pub returns-clause-joined : goal.returns-clause-joined
 returns-clause-joined c =

@@ -1,7 +1,7 @@
-use Rattle.std.proofs.Common.{◌≡◌, ℕ, ◌<◌, ◌+◌, ◌%◌, [], length, sym, ap, subst, refl, ◌∙◌, arith, mod-lt, cond, ltb}
-use Rattle.psac_readers.proofs.Terms.{lt-ltb, sum_by, Has, drew, entered, named, Carries, entry, new_link, noded, way}
+use Rattle.std.proofs.Common.{◌≡◌, ℕ, ◌<◌, ◌+◌, ◌%◌, [], length, sym, ap, subst, refl, ◌∙◌, arith, mod-lt}
+use Rattle.psac_readers.proofs.Terms.{within, handle_at, place_is, sum_by, Has, drew, entered, named, Carries, entry, new_link, noded, way}
 use Rattle.psac_readers.proofs.Acts.{draws, loads, nodes, swaps, comes}
-use Rattle.psac_readers.proofs.Entering.{Got, got, last, carries, handle_of, place_is, F_node, F_swap, still_has}
+use Rattle.psac_readers.proofs.Entering.{Got, got, last, carries, F_node, F_swap, still_has}
 use Rattle.psac_readers.proofs.readers.Readers.enter.Goals as goal
 
 pub fetch_add-index-requires : goal.fetch_add-index-requires
@@ -29,12 +29,12 @@ store-requires c =
     let d = c.fetch_add-index.ensures in
     let l = c.load-word.ensures in
     let n = c.fetch_add-index.result in
-    let g = got _ _ n c.load-word.result v _ _ (d.2 ∙ ap (λ z. (drew v n, z)) c.pass.invariant.0) l.2 (place_is _ _ n _ _ (c.from.ensures ∙ sym p.head_is) (c.from-2.ensures ∙ sym p.links_is)) (omega (arith, c.if-index-room.false, c.from-room.ensures, p.room_is)) in
+    let g = got _ _ n c.load-word.result v _ _ (d.2 ∙ ap (λ z. (drew v n, z)) c.pass.invariant.0) l.2 (place_is _ n _ _ n _ (c.from.ensures ∙ sym p.head_is) refl (c.from-2.ensures ∙ sym p.links_is)) (omega (arith, c.if-index-room.false, c.from-room.ensures, p.room_is)) in
     let t = ap (λ p. p.table) c.pass.view_is ∙ (c.requires.table ∙ sym c.self.view_is) in
     let li = p.links_is in
     let li2 = ap (λ m. m.0.claims.count) g.view in
     let mi2 = ap (λ m. m.0.mods) g.view in
-    (l.0 ∙ (d.0 ∙ t), omega (arith, ap (λ z. z.words) t, p.words_is, g.low, li), nodes _ _ _ _ c.load-word.new.seat.me.0 c.load-word.new.seat.me.1 (ap (λ m. m.0.claims.live) g.view ∙ p.live) (new_link (handle_of c.load-word.result)) v.links c.node_word.result _ (ap (λ m. m.0.links) g.view) (omega (arith, li, p.mods_is, li2, mi2)))
+    (l.0 ∙ (d.0 ∙ t), omega (arith, ap (λ z. z.words) t, p.words_is, g.low, li), nodes _ _ _ _ c.load-word.new.seat.me.0 c.load-word.new.seat.me.1 (ap (λ m. m.0.claims.live) g.view ∙ p.live) (new_link (handle_at c.load-word.result)) v.links c.node_word.result _ (ap (λ m. m.0.links) g.view) (omega (arith, li, p.mods_is, li2, mi2)))
 
 pub swap-old-requires : goal.swap-old-requires
 swap-old-requires c =
@@ -43,7 +43,7 @@ swap-old-requires c =
     let d = c.fetch_add-index.ensures in
     let l = c.load-word.ensures in
     let n = c.fetch_add-index.result in
-    let g = got _ _ n c.load-word.result v _ _ (d.2 ∙ ap (λ z. (drew v n, z)) c.pass.invariant.0) l.2 (place_is _ _ n _ _ (c.from.ensures ∙ sym p.head_is) (c.from-2.ensures ∙ sym p.links_is)) (omega (arith, c.if-index-room.false, c.from-room.ensures, p.room_is)) in
+    let g = got _ _ n c.load-word.result v _ _ (d.2 ∙ ap (λ z. (drew v n, z)) c.pass.invariant.0) l.2 (place_is _ n _ _ n _ (c.from.ensures ∙ sym p.head_is) refl (c.from-2.ensures ∙ sym p.links_is)) (omega (arith, c.if-index-room.false, c.from-room.ensures, p.room_is)) in
     let t = ap (λ p. p.table) c.pass.view_is ∙ (c.requires.table ∙ sym c.self.view_is) in
     let low = g.low in
     let li = p.links_is in
@@ -56,7 +56,7 @@ swap-old-requires c =
     let im = ap (λ p. p.knows.mods) c.pass.view_is in (
       c.store.ensures.0 ∙ (l.0 ∙ (d.0 ∙ t)),
       omega (arith, ap (λ z. z.words) t, p.words_is, ins, im, mi),
-      swaps _ _ _ _ c.store.new.seat.me.0 c.store.new.seat.me.1 (ap (λ m. m.0.claims.live) v3 ∙ p.live) (noded c.node_word.result (new_link (handle_of c.load-word.result))) v.links c.args.m.slot _ _ (ap (λ m. m.0.links) v3) refl (omega (arith, ins, im, mi3))
+      swaps _ _ _ _ c.store.new.seat.me.0 c.store.new.seat.me.1 (ap (λ m. m.0.claims.live) v3 ∙ p.live) (noded c.node_word.result (new_link (handle_at c.load-word.result))) v.links c.args.m.slot _ _ (ap (λ m. m.0.links) v3) refl (omega (arith, ins, im, mi3))
           (subst (Has c.args.m.slot) (sym (ap (λ m. m.0) v3)) (subst (Has c.args.m.slot) (sym (ap (λ p. p.knows) c.pass.view_is)) c.requires.set)) (omega (arith, li, li3)) (omega arith),
     )
 
@@ -67,7 +67,7 @@ store-requires-2 c =
     let d = c.fetch_add-index.ensures in
     let l = c.load-word.ensures in
     let n = c.fetch_add-index.result in
-    let g = got _ _ n c.load-word.result v _ _ (d.2 ∙ ap (λ z. (drew v n, z)) c.pass.invariant.0) l.2 (place_is _ _ n _ _ (c.from.ensures ∙ sym p.head_is) (c.from-2.ensures ∙ sym p.links_is)) (omega (arith, c.if-index-room.false, c.from-room.ensures, p.room_is)) in
+    let g = got _ _ n c.load-word.result v _ _ (d.2 ∙ ap (λ z. (drew v n, z)) c.pass.invariant.0) l.2 (place_is _ n _ _ n _ (c.from.ensures ∙ sym p.head_is) refl (c.from-2.ensures ∙ sym p.links_is)) (omega (arith, c.if-index-room.false, c.from-room.ensures, p.room_is)) in
     let t = ap (λ p. p.table) c.pass.view_is ∙ (c.requires.table ∙ sym c.self.view_is) in
     let li = p.links_is in
     let e3 : c.store.new.seat.me ≡ F_node c.node_word.result c.load-word.new.seat.me = c.store.ensures.2 in
@@ -80,7 +80,7 @@ store-requires-2 c =
       c.swap-old.ensures.0 ∙ (c.store.ensures.0 ∙ (l.0 ∙ (d.0 ∙ t))),
       omega (arith, ap (λ z. z.words) t, p.words_is, g.low, li),
       comes _ _ _ _ c.swap-old.new.seat.me.0 c.swap-old.new.seat.me.1 (ap (λ m. m.0.claims.live) v4 ∙ p.live)
-          (way c.args.m.slot c.swap-old.result (noded c.node_word.result (new_link (handle_of c.load-word.result)))) v.links c.swap-old.result _ (ap (λ m. m.0.links) v4) refl (omega (arith, li, p.mods_is, li4, mi4)),
+          (way c.args.m.slot c.swap-old.result (noded c.node_word.result (new_link (handle_at c.load-word.result)))) v.links c.swap-old.result _ (ap (λ m. m.0.links) v4) refl (omega (arith, li, p.mods_is, li4, mi4)),
     )
 
 -- what the enter leaves
@@ -90,7 +90,7 @@ entry_left c =
     let v = c.pass.inside.seat.me.0 in
     let p = c.pass.invariant.1 in
     let n = c.fetch_add-index.result in
-    let g = got _ _ n c.load-word.result v _ _ (c.fetch_add-index.ensures.2 ∙ ap (λ z. (drew v n, z)) c.pass.invariant.0) c.load-word.ensures.2 (place_is _ _ n _ _ (c.from.ensures ∙ sym p.head_is) (c.from-2.ensures ∙ sym p.links_is)) (omega (arith, c.if-index-room.false, c.from-room.ensures, p.room_is)) in
+    let g = got _ _ n c.load-word.result v _ _ (c.fetch_add-index.ensures.2 ∙ ap (λ z. (drew v n, z)) c.pass.invariant.0) c.load-word.ensures.2 (place_is _ n _ _ n _ (c.from.ensures ∙ sym p.head_is) refl (c.from-2.ensures ∙ sym p.links_is)) (omega (arith, c.if-index-room.false, c.from-room.ensures, p.room_is)) in
     let e3 : c.store.new.seat.me ≡ F_node c.node_word.result c.load-word.new.seat.me = c.store.ensures.2 in
     let li3 = ap (λ m. m.0.claims.count) (e3 ∙ ap (F_node c.node_word.result) g.view) in
     let e4 : c.swap-old.new.seat.me ≡ F_swap c.args.m.slot c.swap-old.result c.store.new.seat.me = c.swap-old.ensures.2 c.args.m.slot (omega (arith, p.links_is, li3)) in
@@ -108,14 +108,10 @@ returns-clause-ok c =
     let n = c.fetch_add-index.result in
     let l = entry_left c in
     let is = ap (λ p. p.knows) c.pass.view_is in
-    (n, subst (λ x. n < length x.claims.list) is (omega (arith, c.if-index-room.false, c.from-room.ensures, c.pass.invariant.1.room_is)), (handle_of c.load-word.result, sym (ap (λ x. entry x.claims.list n) is) ∙ l.0.entry, refl), ap (λ m. m.0) l.1 ∙ (λ j. entered (is j) n c.args.m.slot (c.node_word.ensures j) (c.load-word.result % 4294967296)))
+    (n, subst (λ x. n < length x.claims.list) is (omega (arith, c.if-index-room.false, c.from-room.ensures, c.pass.invariant.1.room_is)), (handle_at c.load-word.result, sym (ap (λ x. entry x.claims.list n) is) ∙ l.0.entry, refl), ap (λ m. m.0) l.1 ∙ (λ j. entered (is j) n c.args.m.slot (c.node_word.ensures j) (c.load-word.result % 4294967296)))
 
 pub returns-clause-new : goal.returns-clause-new
 returns-clause-new c = subst (λ x. sum_by (named (c.load-word.result % 4294967296)) x.links ≡ 0) (ap (λ p. p.knows) c.pass.view_is) (entry_left c).0.new
-
--- an enter below the room leaves the pass with no index past it
-within : (n over room : ℕ) → n < room → over ≡ 0 → over + cond (ltb n room) 0 1 ≡ 0
-within n over room l e = rw (lt-ltb n room l) (omega (arith, e))
 
 pub returns-clause-room : goal.returns-clause-room
 returns-clause-room c = let r = returns-clause-ok c in ap (λ v. v.claims.over) r.3 ∙ within r.0 c.args.pass.now.knows.claims.over (length c.args.pass.now.knows.claims.list) r.1 c.requires.room

@@ -1,14 +1,11 @@
 use Rattle.std.proofs.Common.{List, ℕ, ◌≡◌, ◌<◌, ◌+◌, ◌%◌, suc, refl, sym, ap, subst, ◌∙◌, arith, length, Some, mod-lt, true, ◌++◌, ◌∷◌}
-use Rattle.psac_readers.proofs.Terms.{sum_by, Step, place as place_of, Accounted, ReadersView, named, alive, mods_of, head_at, Each, Seat, Unlinked, revived, unlinked, freed, swept_one, chain_of, led_from, Fine, Carries, Placing, Member}
+use Rattle.psac_readers.proofs.Terms.{one_more, sum_by, Step, place as place_of, Accounted, ReadersView, named, alive, mods_of, head_at, Each, Seat, Unlinked, revived, unlinked, freed, swept_one, chain_of, led_from, Fine, Carries, Placing, Member}
 use Rattle.psac_slots.specs.Handles as handles
 use Rattle.psac_readers.proofs.Freeing.{revives, unlinks, frees}
 use Rattle.psac_readers.proofs.Walking.{named_low}
 use Rattle.psac_readers.proofs.Handing.{revived_alive, unlinked_out, revived_fine, still_named, freed_all, room_after, carries_swept, led_low}
 use Rattle.psac_readers.proofs.Taking.{stands}
 use Rattle.psac_readers.proofs.readers.Readers.free_link.Goals as goal
-
-one_more : (n : ℕ) → n + 1 ≡ suc n
-one_more n = omega arith
 
 -- the three steps, one after another
 module _ (links mods head room words : ℕ) (v : ReadersView) (p : Carries links mods head room words v) (hs : List (ℕ × Unit {0})) (l before next : ℕ) (own : 0 < sum_by (named l) v.links) (pl : Placing v before l next) where
@@ -101,38 +98,27 @@ store-requires-2 c =
           (subst (λ (u : ReadersView). 0 < sum_by (named l) u.links) f (omega (arith, still_named l v.links, own))) (subst (λ (u : ReadersView). sum_by (stands l) u.links ≡ 0) f (unlinked_out _ l v.links p.fine)) here (omega (arith, c.from-4.ensures)),
     )
 
-pub overflow_add-pass : goal.overflow_add-pass
-overflow_add-pass c =
-    let iv = ap (λ p. p.knows) c.pass.view_is in
+-- what is left, and what the link had
+swept : (c : goal.After-store-2) → (c.store-2.new.seat.me ≡ (swept_one c.args.link c.pass.inside.seat.me.0, c.pass.inside.seat.me.1)) × (0 < handles.slot_times c.args.link c.pass.inside.seat.me.0.claims.held)
+swept c =
     let p = c.pass.invariant.1 in
-    let v = c.pass.inside.seat.me.0 in
     let l = c.args.link in
-    let f = swept_is _ _ _ _ _ v _ p _ l c.args.before c.args.next iv c.requires.own c.requires.place _ _ _ _ _ (c.store.ensures.2 l (omega (arith, p.links_is, p.mods_is))) c.swap.ensures.2 refl (c.store-2.ensures.2 l (omega (arith, c.from-4.ensures))) in
-    omega (arith, (room_after l v f.1 (subst (λ (u : ReadersView). Accounted u.claims) (sym iv) c.requires.whole)).0, p.room_is, p.links_is, p.small)
+    swept_is _ _ _ _ _ c.pass.inside.seat.me.0 _ p _ l c.args.before c.args.next (ap (λ p. p.knows) c.pass.view_is) c.requires.own c.requires.place _ _ _ _ _ (c.store.ensures.2 l (omega (arith, p.links_is, p.mods_is))) c.swap.ensures.2 refl (c.store-2.ensures.2 l (omega (arith, c.from-4.ensures)))
+
+-- the ring had room for it, and each link is free or held
+room_is : (c : goal.After-store-2) → (length c.pass.inside.seat.me.0.claims.list < c.pass.inside.seat.me.0.claims.count) × Accounted (swept_one c.args.link c.pass.inside.seat.me.0).claims
+room_is c = room_after c.args.link c.pass.inside.seat.me.0 (swept c).1 (subst (λ (u : ReadersView). Accounted u.claims) (sym (ap (λ p. p.knows) c.pass.view_is)) c.requires.whole)
+
+pub overflow_add-pass : goal.overflow_add-pass
+overflow_add-pass c = let p = c.pass.invariant.1 in omega (arith, (room_is c).0, p.room_is, p.links_is, p.small)
 
 pub invariant_of-pass : goal.invariant_of-pass
 invariant_of-pass c =
-    let iv = ap (λ p. p.knows) c.pass.view_is in
-    let p = c.pass.invariant.1 in
-    let v = c.pass.inside.seat.me.0 in
-    let l = c.args.link in
-    let f = swept_is _ _ _ _ _ v _ p _ l c.args.before c.args.next iv c.requires.own c.requires.place _ _ _ _ _ (c.store.ensures.2 l (omega (arith, p.links_is, p.mods_is))) c.swap.ensures.2 refl (c.store-2.ensures.2 l (omega (arith, c.from-4.ensures))) in
-    (ap (λ m. m.1) f.0 ∙ c.pass.invariant.0, subst (λ (x : ℕ × ReadersView). Carries c.pass.inside.links c.pass.inside.mods c.pass.inside.head (c.pass.inside.room + 1) x.0 x.1) (λ j. (ap (λ z. z.words) (sym (c.store-2.ensures.0 ∙ (c.swap.ensures.0 ∙ c.store.ensures.0))) j, sym (ap (λ m. m.0) f.0) j)) (carries_swept _ _ _ _ _ l v p (room_after l v f.1 (subst (λ (u : ReadersView). Accounted u.claims) (sym iv) c.requires.whole)).0))
+    let f = (swept c.before).0 in
+    (ap (λ m. m.1) f ∙ c.pass.invariant.0, subst (λ (x : ℕ × ReadersView). Carries c.pass.inside.links c.pass.inside.mods c.pass.inside.head (c.pass.inside.room + 1) x.0 x.1) (λ j. (ap (λ z. z.words) (sym (c.store-2.ensures.0 ∙ (c.swap.ensures.0 ∙ c.store.ensures.0))) j, sym (ap (λ m. m.0) f) j)) (carries_swept _ _ _ _ _ c.args.link c.pass.inside.seat.me.0 c.pass.invariant.1 (room_is c.before).0))
 
 pub returns-clause-freed : goal.returns-clause-freed
-returns-clause-freed c =
-    let iv = ap (λ p. p.knows) c.pass.view_is in
-    let p = c.pass.invariant.1 in
-    let v = c.pass.inside.seat.me.0 in
-    let l = c.args.link in
-    let f = swept_is _ _ _ _ _ v _ p _ l c.args.before c.args.next iv c.requires.own c.requires.place _ _ _ _ _ (c.store.ensures.2 l (omega (arith, p.links_is, p.mods_is))) c.swap.ensures.2 refl (c.store-2.ensures.2 l (omega (arith, c.from-4.ensures))) in
-    ap (λ m. m.0) f.0 ∙ ap (swept_one l) iv
+returns-clause-freed c = ap (λ m. m.0) (swept c.before).0 ∙ ap (λ p. swept_one c.args.link p.knows) c.pass.view_is
 
 pub returns-clause-whole : goal.returns-clause-whole
-returns-clause-whole c =
-    let iv = ap (λ p. p.knows) c.pass.view_is in
-    let p = c.pass.invariant.1 in
-    let v = c.pass.inside.seat.me.0 in
-    let l = c.args.link in
-    let f = swept_is _ _ _ _ _ v _ p _ l c.args.before c.args.next iv c.requires.own c.requires.place _ _ _ _ _ (c.store.ensures.2 l (omega (arith, p.links_is, p.mods_is))) c.swap.ensures.2 refl (c.store-2.ensures.2 l (omega (arith, c.from-4.ensures))) in
-    subst (λ (u : ReadersView). Accounted u.claims) (sym (ap (λ m. m.0) f.0)) (room_after l v f.1 (subst (λ (u : ReadersView). Accounted u.claims) (sym iv) c.requires.whole)).1
+returns-clause-whole c = subst (λ (u : ReadersView). Accounted u.claims) (sym (ap (λ m. m.0) (swept c.before).0)) (room_is c.before).1

@@ -1,5 +1,5 @@
-use Rattle.std.proofs.Common.{ℕ, ◌≡◌, ◌+◌, suc, sym, ap, subst, ◌∙◌, arith}
-use Rattle.psac_readers.proofs.Terms.{Member, ReadersView, rewound, Fine, Holds, Each, AllGiven}
+use Rattle.std.proofs.Common.{sym, ap, subst, ◌∙◌, arith}
+use Rattle.psac_readers.proofs.Terms.{one_more, Member, ReadersView, rewound, Fine, Holds, Each, AllGiven}
 use Rattle.psac_readers.proofs.Sweeping.{one_given, all_gone}
 use Rattle.psac_readers.proofs.readers.Readers.give_all.Goals as goal
 
@@ -9,14 +9,11 @@ take_off-requires-clause-walk c =
     let e = ap (λ (u : ReadersView). u.mods) (ap (λ p. p.knows) c.pass.view_is ∙ c.rewind.ensures.rewound) in
     subst (Member c.loop-m.m) (sym c.loop-m.invariant.2.sets) (c.requires.sets c.loop-m.m (omega (arith, c.loop-m-test.true, p, e)))
 
-one_more : (n : ℕ) → suc n ≡ n + 1
-one_more n = omega arith
-
 pub loop-m-preserved : goal.loop-m-preserved
 loop-m-preserved c =
     let i = c.loop-m.invariant in
     let t = c.take_off.ensures in
-    (t.table ∙ i.0, t.begun, subst (λ n. AllGiven n (rewound c.args.pass.now.knows) c.take_off.new.pass.knows) (one_more c.loop-m.m) (one_given c.loop-m.m (rewound c.args.pass.now.knows) c.loop-m.pass.knows c.take_off.new.pass.knows i.2 t.taken), t.whole)
+    (t.table ∙ i.0, t.begun, subst (λ n. AllGiven n (rewound c.args.pass.now.knows) c.take_off.new.pass.knows) (sym (one_more c.loop-m.m)) (one_given c.loop-m.m (rewound c.args.pass.now.knows) c.loop-m.pass.knows c.take_off.new.pass.knows i.2 t.taken), t.whole)
 
 pub returns-clause-empty : goal.returns-clause-empty
 returns-clause-empty c =

@@ -1,6 +1,7 @@
-use Rattle.std.proofs.Common.{Bool, true, false, true≢false, refl, ◌≡◌, ◌<◌, sym, ap, subst, ◌∙◌, arith}
-use Rattle.psac_readers.proofs.Terms.{sum_by, not, eqb-true, named, alive}
+use Rattle.std.proofs.Common.{false, ◌<◌, sym, ap, subst, ◌∙◌, arith}
+use Rattle.psac_readers.proofs.Terms.{sum_by, eqb-true, named, alive}
 use Rattle.psac_readers.proofs.Acts.{loads}
+use Rattle.psac_readers.proofs.Links.{on_then}
 use Rattle.psac_readers.proofs.Walking.{named_low, all_whole}
 use Rattle.psac_readers.proofs.readers.Readers.goes.Goals as goal
 
@@ -12,10 +13,6 @@ load-dead-requires c =
     let own = subst (λ v. 0 < sum_by (named c.args.link) v.links) (sym (ap (λ p. p.knows) is)) c.requires.own in
     let low = named_low _ c.args.link c.pass.inside.seat.me.0.links p.fine own in
     (t, omega (arith, ap (λ z. z.words) t, p.words_is, low), loads _ _ _ _ c.pass.inside.seat.me.0 c.pass.inside.seat.me.1 p.live _)
-
-on_then : (b : Bool) → not b ≡ false → b ≡ true
-on_then true e = refl
-on_then false e = absurd (true≢false e)
 
 pub returns-clause-stays : goal.returns-clause-stays
 returns-clause-stays c = λ e.

@@ -1,6 +1,7 @@
-use Rattle.std.proofs.Common.{Bool, ℕ, zero, suc, true, false, true≢false, refl, ◌≡◌, ◌<◌, sym, ap, subst, ◌∙◌, arith}
+use Rattle.std.proofs.Common.{ℕ, zero, suc, true, false, true≢false, ◌≡◌, ◌<◌, sym, ap, subst, ◌∙◌, arith}
 use Rattle.psac_readers.proofs.Terms.{sum_by, not, ◌==◌, eqb-true, IsSole, deads}
 use Rattle.psac_readers.proofs.Acts.{loads}
+use Rattle.psac_readers.proofs.Links.{on_then}
 use Rattle.psac_readers.proofs.readers.Readers.is_dead.Goals as goal
 
 pub load-found-requires : goal.load-found-requires
@@ -25,11 +26,7 @@ some_of zero e = absurd (true≢false (sym e))
 some_of (suc a) e = omega arith
 
 none_of : (a : ℕ) → not (a == 0) ≡ false → a ≡ 0
-none_of a e = eqb-true a 0 (by (a == 0) e)
-  where
-    by : (b : Bool) → not b ≡ false → b ≡ true
-    by true e = refl
-    by false e = absurd (true≢false e)
+none_of a e = eqb-true a 0 (on_then (a == 0) e)
 
 pub returns-clause-dead : goal.returns-clause-dead
 returns-clause-dead c = λ e. let t = told c in let s = some_of c.load-found.result e in omega (arith, t, s)

@@ -1,7 +1,7 @@
 use Rattle.std.proofs.Common.{ℕ, List, ◌≡◌, ◌<◌, ◌≤◌, sym, ap, subst, ◌∙◌, arith}
-use Rattle.psac_readers.proofs.Terms.{sum_by, ReadersView, Each, named, times, Fine, chain_of, set_of, next_live, behind, or_empty, has_word, from_word, Walks}
+use Rattle.psac_readers.proofs.Terms.{same_some, sum_by, ReadersView, Each, named, times, Fine, chain_of, set_of, next_live, behind, or_empty, has_word, from_word, Walks}
 use Rattle.psac_readers.proofs.Acts.{loads}
-use Rattle.psac_readers.proofs.Walking.{chain_named, named_low, all_whole, word_behind, same_chain, behind_on, on_walk}
+use Rattle.psac_readers.proofs.Walking.{chain_named, named_low, all_whole, word_behind, behind_on, on_walk}
 use Rattle.psac_readers.proofs.readers.Readers.next.Goals as goal
 
 pub load-word-requires : goal.load-word-requires
@@ -74,7 +74,7 @@ returns-clause-next c = λ us at_us.
     let u = c.load-word.new.seat.me.0 in
     let walks : Walks u (set_of l u.links) ls = subst (λ x. Walks x (set_of l x.links) ls) (ap (λ m. m.0) (sym same)) k.1 in
     let chain : or_empty (chain_of (set_of c.from.result u.links) u.walk) ≡ ls = ap (λ x. or_empty (chain_of (set_of x u.links) u.walk)) c.from.ensures ∙ ap or_empty walks.1 in
-    let us_is : ls ≡ us = same_chain ls us (sym k.1.1 ∙ (ap (λ x. chain_of (set_of l x.links) x.walk) iv ∙ at_us)) in
+    let us_is : ls ≡ us = same_some ls us (sym k.1.1 ∙ (ap (λ x. chain_of (set_of l x.links) x.walk) iv ∙ at_us)) in
     c.live_from.ensures.found ∙ ((λ j. next_live (ap (λ m. m.0.links) same j) (from_word c.load-word.result (chain j))) ∙ ((λ j. next_live (iv j).links ((word_behind c.load-word.result l ls (λ x. (k.1.2 x).1) n).1 j)) ∙ ap (λ x. next_live c.args.pass.now.knows.links (behind l x)) us_is))
 
 pub returns-clause-found : goal.returns-clause-found

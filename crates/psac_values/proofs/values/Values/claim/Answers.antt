@@ -1,7 +1,7 @@
-use Rattle.std.proofs.Common.{ℕ, suc, ◌+◌, ◌*◌, ◌%◌, ◌/◌, ◌∷◌, ◌++◌, [], List, map, ◌≤◌, ◌<◌, ◌≡◌, length, sym, ap, subst, ◌∙◌, arith, mod-lt, refl, cond, ltb, zero, inl}
-use Rattle.psac_values.proofs.Terms.{lt-ltb, Step, Handle, Member, slot_times, entry, member_right, map_member, ValueView, state_at, handle_of, Seat, Drew, Loaded, Tells, Lacks, drew, new_state, marked, Carries, took}
+use Rattle.std.proofs.Common.{ℕ, suc, ◌+◌, ◌*◌, ◌%◌, ◌∷◌, ◌++◌, [], map, ◌≤◌, ◌<◌, ◌≡◌, length, sym, ap, subst, ◌∙◌, arith, mod-lt, refl, inl}
+use Rattle.psac_values.proofs.Terms.{one_more, handle_at, past_entry, within, Step, Member, slot_times, entry, member_right, map_member, ValueView, state_at, handle_of, Seat, Drew, Loaded, Tells, Lacks, drew, new_state, marked, Carries, took}
 use Rattle.psac_values.proofs.Acts.{draws, loads, marks}
-use Rattle.psac_values.proofs.Carrying.{carries_past, carries_took, found_here, drawn_once}
+use Rattle.psac_values.proofs.Carrying.{carried, carries_past, carries_took, found_here, drawn_once}
 use Rattle.psac_values.proofs.values.Values.claim.Goals as goal
 
 pub fetch_add-index-requires : goal.fetch_add-index-requires
@@ -11,12 +11,6 @@ fetch_add-index-requires c =
     let t = ap (λ p. p.table) is ∙ (c.requires.table ∙ sym c.self.view_is) in
     (t, omega (arith, ap (λ z. z.words) t, p.words_is), draws _ _ _ _ c.pass.inside.seat.me.0 c.pass.inside.seat.me.1 p.live (ap (λ p. p.knows.claims.over) is ∙ c.requires.room))
 
-past : (list : List Handle) (n : ℕ) → length list ≤ n → entry list n ≡ []
-past [] zero l = refl
-past [] (suc n) l = refl
-past (x ∷ list) zero l = absurd (omega (arith, l))
-past (x ∷ list) (suc n) l = past list n (omega (arith, l))
-
 pub load-word-requires : goal.load-word-requires
 load-word-requires c =
     let p = c.pass.invariant.1 in
@@ -25,12 +19,6 @@ load-word-requires c =
     let k = c.from-2.ensures in
     let m = mod-lt (c.from.result + c.fetch_add-index.result) {m = c.from-2.result} (omega (arith, c.if-index-room.false, c.from-room.ensures, k, p.room_fits)) in
     (d.0 ∙ t, omega (arith, ap (λ z. z.words) t, p.words_is, m, k), loads _ _ _ _ _ c.fetch_add-index.new.seat.me.0 c.fetch_add-index.new.seat.me.1 (ap (λ m. m.0.claims.live) d.2.drawn ∙ p.live))
-
-one_more : (n : ℕ) → n + 1 ≡ suc n
-one_more n = omega arith
-
-abbrev handle_at : ℕ → Handle
-handle_at word = record { slot = word % 4294967296; generation = word / 4294967296 }
 
 -- what a claim has after the load: the word is the list's entry at the index, a handle that the pass lacked
 record Got (me two : Seat) (n word : ℕ) : Type 0 where
@@ -77,10 +65,6 @@ left c =
     let spot : c.pass.inside.count + h.slot + 1 ≡ state_at c.load-word.new.seat.me.0.claims.count h.slot = omega (arith, p.count_is, ap (λ (u : Seat). u.0.claims.count) g.drawn) in
     (g, c.store.ensures.2 h.slot spot ∙ (λ j. (marked h.slot (one_more (2 * h.generation) j) (g.drawn j).0, (g.drawn j).1)))
 
--- a claim below the room leaves the pass with no index past it
-within : (n : ℕ) (over : ℕ) (list : List Handle) → n < length list → over ≡ 0 → over + cond (ltb n (length list)) 0 1 ≡ 0
-within n over list l e = rw (lt-ltb n (length list) l) (omega (arith, e))
-
 pub returns-clause-ok : goal.returns-clause-ok
 returns-clause-ok c =
     let l = left c in
@@ -102,25 +86,20 @@ pub invariant_of-pass : goal.invariant_of-pass
 invariant_of-pass c =
     let p = c.pass.invariant.1 in
     let d = c.fetch_add-index.ensures in
-    let e = d.2.drawn in (
-      ap (λ m. m.1) e ∙ c.pass.invariant.0,
-      subst (λ (x : ℕ × ValueView). Carries c.pass.inside.fixed c.pass.inside.count c.pass.inside.head c.pass.inside.room x.0 x.1) (λ j. (ap (λ z. z.words) (sym d.0) j, ap (λ m. m.0) (sym e) j))
-          (carries_past _ _ _ _ _ c.pass.inside.seat.me.0 p c.fetch_add-index.result (past _ c.fetch_add-index.result (omega (arith, c.if-index-room.true, c.from-room.ensures, p.room_is)))),
-    )
+    let none = past_entry _ c.fetch_add-index.result (omega (arith, c.if-index-room.true, c.from-room.ensures, p.room_is)) in
+    (ap (λ m. m.1) d.2.drawn ∙ c.pass.invariant.0, carried _ _ _ _ _ _ (carries_past _ _ _ _ _ c.pass.inside.seat.me.0 p c.fetch_add-index.result none) _ _ (ap (λ z. z.words) d.0) (ap (λ m. m.0) d.2.drawn))
 
 pub invariant_of-pass-2 : goal.invariant_of-pass-2
 invariant_of-pass-2 c =
-    let l = left c in (
-      ap (λ m. m.1) l.1 ∙ c.pass.invariant.0,
-      subst (λ (x : ℕ × ValueView). Carries c.pass.inside.fixed c.pass.inside.count c.pass.inside.head c.pass.inside.room x.0 x.1)
-          (λ j. (ap (λ z. z.words) (sym (c.store.ensures.0 ∙ (c.load-word.ensures.0 ∙ c.fetch_add-index.ensures.0))) j, sym (ap (λ m. m.0) l.1) j))
-          (carries_took _ _ _ _ _ c.pass.inside.seat.me.0 c.pass.invariant.1 c.fetch_add-index.result (handle_at c.load-word.result) l.0.listed l.0.low l.0.once),
-    )
+    let l = left c in
+    let t = c.store.ensures.0 ∙ (c.load-word.ensures.0 ∙ c.fetch_add-index.ensures.0) in
+    let k = carries_took _ _ _ _ _ c.pass.inside.seat.me.0 c.pass.invariant.1 c.fetch_add-index.result (handle_at c.load-word.result) l.0.listed l.0.low l.0.once in
+    (ap (λ m. m.1) l.1 ∙ c.pass.invariant.0, carried _ _ _ _ _ _ k _ _ (ap (λ z. z.words) t) (ap (λ m. m.0) l.1))
 
 pub returns-clause-room : goal.returns-clause-room
 returns-clause-room c =
     let r = returns-clause-ok c in
-    ap (λ (u : ValueView). u.claims.over) r.5 ∙ within r.0 c.args.pass.now.knows.claims.over c.args.pass.now.knows.claims.list r.2 c.requires.room
+    ap (λ (u : ValueView). u.claims.over) r.5 ∙ within r.0 c.args.pass.now.knows.claims.over (length c.args.pass.now.knows.claims.list) r.2 c.requires.room
 
 pub returns-clause-branch : goal.returns-clause-branch
 returns-clause-branch c = ap (λ (u : ValueView). u.claims.branch) (returns-clause-ok c).5

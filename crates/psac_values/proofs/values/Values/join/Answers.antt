@@ -1,7 +1,7 @@
-use Rattle.std.proofs.Common.{ℕ, ◌≡◌, ◌<◌, ◌+◌, sym, ap, subst, ◌∙◌, arith, refl, length, Option, Some}
-use Rattle.psac_values.proofs.Terms.{IfSome, Member, MetView, OwnedView, StateView, ValueView, Meeting, joined, Carries, United}
+use Rattle.std.proofs.Common.{◌≡◌, ◌<◌, ◌+◌, sym, ap, subst, ◌∙◌, arith, length, Option}
+use Rattle.psac_values.proofs.Terms.{IfSome, Member, MetView, OwnedView, StateView, ValueView, Meeting, joined, United}
 use Rattle.psac_values.proofs.Acts.{joins, settles}
-use Rattle.psac_values.proofs.Carrying.{carries_joined, unites_views}
+use Rattle.psac_values.proofs.Carrying.{carried, carries_joined, unites_views}
 use Rattle.psac_values.proofs.values.Values.join.Goals as goal
 
 pub join_seat-requires : goal.join_seat-requires
@@ -42,8 +42,6 @@ invariant_of-result c =
     let j = c.join_seat.ensures in
     let l = c.load.ensures in
     let q = c.right.invariant.1 in
-    let e = l.2.settled ∙ ap (λ m. (record m.0 { met = Rattle.std.proofs.Common.None }, m.1)) j.2 in (
-      ap (λ m. m.1) e ∙ c.left.invariant.0,
-      subst (λ (x : ℕ × ValueView). Carries c.left.inside.fixed c.left.inside.count c.left.inside.head c.left.inside.room x.0 x.1) (λ i. (ap (λ z. z.words) (sym (l.0 ∙ j.0)) i, ap (λ m. m.0) (sym e) i))
-          (carries_joined _ _ _ _ _ c.left.inside.seat.me.0 c.left.invariant.1 c.right.inside.seat.me.0 q.held_is (λ t m. (q.out t m).0) (subst (λ m. (t : StateView) → Member t m.0.states → t.of.slot < m.0.claims.count) j.2 l.2.states) (subst (λ m. (z : OwnedView) → Member z m.0.mine → (length z.words ≡ 3) × (z.of.slot < m.0.fixed + m.0.claims.count)) j.2 l.2.low)),
-    )
+    let e = l.2.settled ∙ ap (λ m. (record m.0 { met = Rattle.std.proofs.Common.None }, m.1)) j.2 in
+    let k = carries_joined _ _ _ _ _ c.left.inside.seat.me.0 c.left.invariant.1 c.right.inside.seat.me.0 q.held_is (λ t m. (q.out t m).0) (subst (λ m. (t : StateView) → Member t m.0.states → t.of.slot < m.0.claims.count) j.2 l.2.states) (subst (λ m. (z : OwnedView) → Member z m.0.mine → (length z.words ≡ 3) × (z.of.slot < m.0.fixed + m.0.claims.count)) j.2 l.2.low) in
+    (ap (λ m. m.1) e ∙ c.left.invariant.0, carried _ _ _ _ _ _ k _ _ (ap (λ z. z.words) (l.0 ∙ j.0)) (ap (λ m. m.0) e))

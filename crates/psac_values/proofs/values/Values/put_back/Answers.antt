@@ -1,15 +1,9 @@
 use Rattle.std.proofs.Common.{◌≡◌, ◌<◌, ℕ, suc, ◌+◌, ◌-◌, ◌*◌, ◌%◌, List, length, sym, ap, subst, ◌∙◌, arith, mod-lt, cond}
-use Rattle.psac_values.proofs.Terms.{eq-eqb, Handle, Member, word_of, later, slot_times, place, Accounted, map_member, member_times, StateView, ValueView, state_at, free_word, Seat, mark, marked, gave, IsOut, claimed_as, Carries}
+use Rattle.psac_values.proofs.Terms.{one_more, twice, eq-eqb, Handle, Member, word_of, later, slot_times, place, Accounted, map_member, member_times, StateView, ValueView, state_at, free_word, Seat, mark, marked, gave, IsOut, claimed_as, Carries}
 use Rattle.psac_values.proofs.Giving.{gave_whole}
 use Rattle.psac_values.proofs.Acts.{marks, gives}
-use Rattle.psac_values.proofs.Carrying.{state_of, has_room, gave_marked, carries_gave}
+use Rattle.psac_values.proofs.Carrying.{carried, state_of, has_room, gave_marked, carries_gave}
 use Rattle.psac_values.proofs.values.Values.put_back.Goals as goal
-
-one_more : (n : ℕ) → n + 1 ≡ suc n
-one_more n = omega arith
-
-twice : (m n : ℕ) → m ≡ n → 2 * m ≡ 2 * n
-twice m n e = ap (λ k. 2 * k) e
 
 -- the slot is out: its state, where that stands, and what is stored of it
 module _ (fixed count head room words : ℕ) (v : ValueView) (p : Carries fixed count head room words v) (m : Handle) (o : IsOut m v) where
@@ -91,8 +85,5 @@ invariant_of-pass c =
     let is = ap (λ p. p.knows) c.pass.view_is in
     let o = subst (λ (v : ValueView). IsOut c.args.m v) (sym is) c.requires.out in
     let room = has_room _ _ _ _ _ v o.0 p o.1 (subst (λ (v : ValueView). Accounted v.claims) (sym is) c.requires.whole) in
-    let done = gone _ _ _ _ _ v p c.args.m o _ _ _ _ _ c.from-generation.ensures c.from-4.ensures c.requires.next (c.store.ensures.2 o.0.slot (spot _ _ _ _ _ v p c.args.m o)) c.store-2.ensures.2 in (
-      ap (λ m. m.1) done ∙ c.pass.invariant.0,
-      subst (λ (x : ℕ × ValueView). Carries c.pass.inside.fixed c.pass.inside.count c.pass.inside.head (c.pass.inside.room + 1) x.0 x.1)
-          (λ j. (ap (λ z. z.words) (sym (c.store-2.ensures.0 ∙ c.store.ensures.0)) j, sym (ap (λ m. m.0) done) j)) (carries_gave _ _ _ _ _ v p o.0 room),
-    )
+    let done = gone _ _ _ _ _ v p c.args.m o _ _ _ _ _ c.from-generation.ensures c.from-4.ensures c.requires.next (c.store.ensures.2 o.0.slot (spot _ _ _ _ _ v p c.args.m o)) c.store-2.ensures.2 in
+    (ap (λ m. m.1) done ∙ c.pass.invariant.0, carried _ _ _ _ _ _ (carries_gave _ _ _ _ _ v p o.0 room) _ _ (ap (λ z. z.words) (c.store-2.ensures.0 ∙ c.store.ensures.0)) (ap (λ m. m.0) done))

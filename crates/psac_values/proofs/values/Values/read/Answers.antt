@@ -1,5 +1,5 @@
 use Rattle.std.proofs.Common.{◌≡◌, ℕ, suc, ◌+◌, ◌*◌, sym, ap, subst, ◌∙◌, arith}
-use Rattle.psac_values.proofs.Terms.{ValueView, Carries, Knows, Tells}
+use Rattle.psac_values.proofs.Terms.{one_more, ValueView, Carries, Knows, Tells}
 use Rattle.psac_values.proofs.Acts.{looks, loads}
 use Rattle.psac_values.proofs.Carrying.{known_low, words_read, carries_looked}
 use Rattle.psac_values.proofs.values.Values.read.Goals as goal
@@ -33,9 +33,6 @@ load-third-requires c =
     let l = c.load-first.ensures in
     let s = c.load-second.ensures in
     (s.0 ∙ (l.0 ∙ t), omega (arith, ap (λ z. z.words) t, p.words_is, low), loads _ _ _ _ _ c.load-second.new.seat.me.0 c.load-second.new.seat.me.1 (ap (λ m. m.0.claims.live) (s.2.same ∙ l.2.looked_is) ∙ p.live))
-
-one_more : (n : ℕ) → n + 1 ≡ suc n
-one_more n = omega arith
 
 two_more : (n : ℕ) → n + 2 ≡ suc (suc n)
 two_more n = omega arith

@@ -1,7 +1,7 @@
-use Rattle.std.proofs.Common.{◌≡◌, ℕ, ◌+◌, ◌*◌, [], ◌∷◌, length, get_or, sym, ap, subst, ◌∙◌, arith}
-use Rattle.psac_values.proofs.Terms.{Handle, Member, map_member, OwnedView, ValueView, Carries, Has, wrote, put, wrote_word, value_at}
+use Rattle.std.proofs.Common.{◌≡◌, ℕ, ◌+◌, ◌*◌, [], ◌∷◌, get_or, sym, ap, subst, ◌∙◌, arith}
+use Rattle.psac_values.proofs.Terms.{Handle, Member, map_member, OwnedView, ValueView, Has, wrote, put, wrote_word, value_at}
 use Rattle.psac_values.proofs.Acts.{writes}
-use Rattle.psac_values.proofs.Carrying.{carries_word, rewrites}
+use Rattle.psac_values.proofs.Carrying.{carried, carries_word, rewrites}
 use Rattle.psac_values.proofs.values.Values.write.Goals as goal
 
 pub store-requires : goal.store-requires
@@ -52,36 +52,27 @@ store-requires-3 c =
     let here : 1 + 2 * c.pass.inside.count + 3 * c.args.m.slot + 2 ≡ value_at c.store-2.new.seat.me.0.claims.count k.0.of.slot 2 = omega (arith, n, n2, same) in
     (s2.0 ∙ (s.0 ∙ t), omega (arith, ap (λ z. z.words) t, p.words_is, (p.mine k.0 k.1).1, same), writes _ _ _ _ _ c.store-2.new.seat.me.0 c.store-2.new.seat.me.1 (ap (λ m. m.0.claims.live) e2 ∙ p.live) _ 2 _ has (omega arith) here)
 
--- the view after the three stores
-stored : (v : ValueView) (i s a b c : ℕ) (w0 w1 w2 w3 : ValueView) → w1 ≡ wrote_word s 0 a v → w2 ≡ wrote_word s 1 b w1 → w3 ≡ wrote_word s 2 c w2 → ((w : OwnedView) → Member w v.mine → length w.words ≡ 3) → w3 ≡ wrote s (a ∷ b ∷ c ∷ []) v
-stored v i s a b c w0 w1 w2 w3 e1 e2 e3 l = e3 ∙ (ap (wrote_word s 2 c) (e2 ∙ ap (wrote_word s 1 b) e1) ∙ (λ k. record v { mine = rewrites s a b c v.mine l k }))
+-- what the three stores leave
+left : (c : goal.After-store-3) → c.store-3.new.seat.me
+    ≡ (wrote_word c.args.m.slot 2 (get_or c.args.words 2 0) (wrote_word c.args.m.slot 1 (get_or c.args.words 1 0) (wrote_word c.args.m.slot 0 (get_or c.args.words 0 0) c.pass.inside.seat.me.0)), c.pass.inside.seat.me.1)
+left c =
+    let n = c.pass.invariant.1.count_is in
+    let m = c.args.m.slot in
+    let e = c.store.ensures.2 m 0 (omega arith) (omega (arith, n)) in
+    let e2 = c.store-2.ensures.2 m 1 (omega arith) (omega (arith, n, ap (λ s. s.0.claims.count) e)) ∙ ap (λ s. (wrote_word m 1 (get_or c.args.words 1 0) s.0, s.1)) e in
+    c.store-3.ensures.2 m 2 (omega arith) (omega (arith, n, ap (λ s. s.0.claims.count) e2)) ∙ ap (λ s. (wrote_word m 2 (get_or c.args.words 2 0) s.0, s.1)) e2
 
 pub returns-clause-wrote : goal.returns-clause-wrote
 returns-clause-wrote c =
-    let is = c.pass.view_is in
-    let p = c.pass.invariant.1 in
     let v = c.pass.inside.seat.me.0 in
-    let n = p.count_is in
     let m = c.args.m.slot in
-    let e = c.store.ensures.2 m 0 (omega arith) (omega (arith, n)) in
-    let n' = ap (λ m. m.0.claims.count) e in
-    let e2 = c.store-2.ensures.2 m 1 (omega arith) (omega (arith, n, n')) in
-    let e3 = c.store-3.ensures.2 m 2 (omega arith) (omega (arith, n, n', ap (λ m. m.0.claims.count) e2)) in
-    let done = stored v 0 m _ _ _ v c.store.new.seat.me.0 c.store-2.new.seat.me.0 c.store-3.new.seat.me.0 (ap (λ m. m.0) e) (ap (λ m. m.0) e2) (ap (λ m. m.0) e3) (λ w q. (p.mine w q).0) in
-    done ∙ ap (wrote m (get_or c.args.words 0 0 ∷ get_or c.args.words 1 0 ∷ get_or c.args.words 2 0 ∷ [])) (ap (λ p. p.knows) is)
+    let three : wrote_word m 2 (get_or c.args.words 2 0) (wrote_word m 1 (get_or c.args.words 1 0) (wrote_word m 0 (get_or c.args.words 0 0) v)) ≡ wrote m (get_or c.args.words 0 0 ∷ get_or c.args.words 1 0 ∷ get_or c.args.words 2 0 ∷ []) v =
+    λ k. record v { mine = rewrites m (get_or c.args.words 0 0) (get_or c.args.words 1 0) (get_or c.args.words 2 0) v.mine (λ w q. (c.pass.invariant.1.mine w q).0) k } in
+    ap (λ s. s.0) (left c) ∙ (three ∙ ap (wrote m (get_or c.args.words 0 0 ∷ get_or c.args.words 1 0 ∷ get_or c.args.words 2 0 ∷ [])) (ap (λ p. p.knows) c.pass.view_is))
 
 pub invariant_of-pass : goal.invariant_of-pass
 invariant_of-pass c =
-    let p = c.pass.invariant.1 in
-    let n = p.count_is in
     let m = c.args.m.slot in
-    let e = c.store.ensures.2 m 0 (omega arith) (omega (arith, n)) in
-    let n' = ap (λ m. m.0.claims.count) e in
-    let e2 = c.store-2.ensures.2 m 1 (omega arith) (omega (arith, n, n')) in
-    let e3 = c.store-3.ensures.2 m 2 (omega arith) (omega (arith, n, n', ap (λ m. m.0.claims.count) e2)) in
-    let table = c.store-3.ensures.0 ∙ (c.store-2.ensures.0 ∙ c.store.ensures.0) in
-    let view = ap (λ m. m.0) e3 ∙ (ap (λ m. wrote_word c.args.m.slot 2 (get_or c.args.words 2 0) m.0) e2 ∙ ap (λ m. wrote_word c.args.m.slot 2 (get_or c.args.words 2 0) (wrote_word c.args.m.slot 1 (get_or c.args.words 1 0) m.0)) e) in (
-      ap (λ m. m.1) e3 ∙ (ap (λ m. m.1) e2 ∙ (ap (λ m. m.1) e ∙ c.pass.invariant.0)),
-      subst (λ (x : ℕ × ValueView). Carries c.pass.inside.fixed c.pass.inside.count c.pass.inside.head c.pass.inside.room x.0 x.1) (λ j. (ap (λ z. z.words) (sym table) j, sym view j))
-          (carries_word _ _ _ _ _ _ (carries_word _ _ _ _ _ _ (carries_word _ _ _ _ _ c.pass.inside.seat.me.0 p m 0 (get_or c.args.words 0 0)) m 1 (get_or c.args.words 1 0)) m 2 (get_or c.args.words 2 0)),
-    )
+    let t = c.store-3.ensures.0 ∙ (c.store-2.ensures.0 ∙ c.store.ensures.0) in
+    let k = carries_word _ _ _ _ _ _ (carries_word _ _ _ _ _ _ (carries_word _ _ _ _ _ c.pass.inside.seat.me.0 c.pass.invariant.1 m 0 (get_or c.args.words 0 0)) m 1 (get_or c.args.words 1 0)) m 2 (get_or c.args.words 2 0) in
+    (ap (λ s. s.1) (left c) ∙ c.pass.invariant.0, carried _ _ _ _ _ _ k _ _ (ap (λ z. z.words) t) (ap (λ s. s.0) (left c)))
