@@ -399,14 +399,20 @@ links_entered v u s e new =
 
 -- marks
 pub marks_none : (v : MarksView) → MoreMarks v v
-marks_none v = record { marked = λ x. omega arith; busy = λ x h. h }
+marks_none v = record { marked = λ x. omega arith; busy = λ x h. h; asks = refl }
 
 pub marks_then : (v u x : MarksView) → MoreMarks v u → MoreMarks u x → MoreMarks v x
-marks_then v u x a b = record { marked = λ y. (let p = a.marked y in let q = b.marked y in omega (arith, p, q)); busy = λ y h. b.busy y (a.busy y h) }
+marks_then v u x a b =
+    record {
+      marked = λ y. (let p = a.marked y in let q = b.marked y in omega (arith, p, q));
+      busy = λ y h. b.busy y (a.busy y h);
+      asks = b.asks ∙ a.asks;
+    }
 
-pub marks_same : (v u : MarksView) → u.marked ≡ v.marked → u.busy ≡ v.busy → MoreMarks v u
-marks_same v u m b =
+pub marks_same : (v u : MarksView) → u.marked ≡ v.marked → u.busy ≡ v.busy → u.asks ≡ v.asks → MoreMarks v u
+marks_same v u m b a =
     record {
       marked = λ x. let p = ap (times x) m in omega (arith, p);
       busy = λ x h. ⊎_elim (λ (i : 0 < times x v.marked). inl (subst (λ z. 0 < times x z) (sym m) i)) (λ (i : 0 < times x v.busy). inr (subst (λ z. 0 < times x z) (sym b) i)) h;
+      asks = a;
     }

@@ -247,4 +247,9 @@ module _ (v l r j : MarksView) (ml : MoreMarks (marks.left_of (both_have v) (λ 
             (λ (i : 0 < times x l.marked). inl (let p = times_append x l.marked r.marked in omega (arith, p, i)))
             (λ (i : 0 < times x l.busy). inr (let p = times_append x l.busy r.busy in omega (arith, p, i)))
             (ml.busy x (left_busy x h)));
+        asks =
+            let c = ap (λ (z : MarksView). z.asks) is in
+            let d = ml.asks in
+            let e = mr.asks in
+            omega (arith, c, d, e);
       }

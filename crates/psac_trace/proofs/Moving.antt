@@ -223,7 +223,8 @@ module _ (t : Tables) (p q : Pass) (of : IsOf p t) (tidy : Tidy p.values.knows) 
         let m = nodes_claimed v u h (slot_of par) c new in
         marks_moved (record { node = h; parent = slot_of par } ∷ []) (rooted_claimed v u h par c m kept fit.nodes)
         (subst (λ z. MoreClaims v.claims z 1) (sym (ap (λ (z : MarksView). z.claims) c.becomes)) (claims_drew v.claims c.index c.low))
-        m (marks_same v u (ap (λ (z : MarksView). z.marked) c.becomes) (ap (λ (z : MarksView). z.busy) c.becomes))
+        m (marks_same v u (ap (λ (z : MarksView). z.marked) c.becomes) (ap (λ (z : MarksView). z.busy) c.becomes)
+        (ap (λ (z : MarksView). z.asks) c.becomes))
 
     pub moves_no_node : (n : ℕ) → length p.marks.knows.claims.list ≤ n → q.marks.knows ≡ marks.drew p.marks.knows n → Moves t p q nothing
     moves_no_node n h e =
@@ -235,7 +236,7 @@ module _ (t : Tables) (p q : Pass) (of : IsOf p t) (tidy : Tidy p.values.knows) 
         let m = nodes_same v u own held (ap (λ (z : MarksView). z.shared) e) (ap (λ (z : MarksView). z.dropped) e) (ap (λ (z : MarksView). z.claims.branch) e) in
         marks_moved [] (rooted_same v u own (ap (λ (z : MarksView). z.shared) e) (ap (λ (z : MarksView). z.dropped) e) (ap (λ (z : MarksView). z.claims.branch) e) fit.nodes)
         (subst (λ z. MoreClaims v.claims z 0) (sym (ap (λ (z : MarksView). z.claims) e)) (claims_past v.claims n h))
-        m (marks_same v u (ap (λ (z : MarksView). z.marked) e) (ap (λ (z : MarksView). z.busy) e))
+        m (marks_same v u (ap (λ (z : MarksView). z.marked) e) (ap (λ (z : MarksView). z.busy) e) (ap (λ (z : MarksView). z.asks) e))
 
   module _ (b : BesideReaders p q) where
     pub readers_of : IsOf q t

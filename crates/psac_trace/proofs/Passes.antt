@@ -373,7 +373,7 @@ module _ (w : Setting Handle) (funcs : List Func) (room : ℕ) (deep : Tracing H
               meets = n.meets;
               ready = subst (λ z. Ready w n.mid n.end.unwritten env z ((m, plain_value x) ∷ n.base)) (sym wr) (put_ready w room deep first rest env p1.values.knows m x (three_of ws) three tidy_on n.base n.st n.mid n.end n.meets r put_mine g);
               begun = λ k i. subst (λ z. held n.base z ≡ None) (one_is m k (plain_value x) i.0 i.1).0 empty;
-              raised = raises_put t olds m ws p p1 b.tidy b.fit ro x words (three_of ws) put_mine p' be wr;
+              raised = raises_put t olds m ws p p1 b.tidy b.fit ro x words (three_of ws) three put_mine p' be wr;
               linked = λ s i. absurd i;
               may = λ k o z. n.may k o (target_back n.st n.mid left n.end.unwritten env k g.2 (without_within (g.0 ∷ []) n.st.unwritten) z);
             }

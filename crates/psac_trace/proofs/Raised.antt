@@ -5,7 +5,6 @@ use Rattle.psac_ops.specs.declared.plain.Handle.{Handle}
 use Rattle.psac_ops.specs.declared.plain.Plain.{Plain}
 use Rattle.psac_ops.specs.Value.{Value}
 use Rattle.psac_ops.specs.Named.{value_of, same_handle}
-use Rattle.psac_ops.specs.Words.{words_of}
 use Rattle.psac_slots.specs.Handles.{Member}
 use Rattle.psac_slots.specs.Claiming.{times}
 use Rattle.psac_slots.proofs.Pairs.{member_left, member_right, member_cases}
@@ -22,7 +21,7 @@ use Rattle.psac_record.specs.declared.parts.Seen.{Seen}
 use Rattle.psac_record.specs.Kept.{Kept, E, A, W, S, P, R, Stands, stands, links_of, bare, reads_of}
 use Rattle.psac_trace.specs.Rights.{Heap, held, In, Within, Sees, Shares, Tidy}
 use Rattle.psac_trace.specs.Grown.{MoreMarks, Made, Moves}
-use Rattle.psac_trace.specs.Told.{Ended, Good, Fault, Other, then_ended, Follows}
+use Rattle.psac_trace.specs.Told.{Ended, Good, Fault, Other, Follows}
 use Rattle.psac_trace.specs.Raising.{Calm, Only, puts, Raises, RaisesBy}
 use Rattle.psac_values.specs.Steps.{Lacks, new_owned}
 use Rattle.psac_values.specs.Knowing.{Claims, wrote, rewritten}
@@ -104,6 +103,7 @@ raises_none olds p q e f =
       only = λ ns h y l. absurd (let z = ap (times y) e in omega (arith, z, l));
       stays = λ m us k n. f m us k;
       owned = λ m x i. absurd i;
+      told = λ m x i. absurd i;
     }
 
 module _ (olds : List Handle) (t : Tables) (p u q : Pass) (a b : Made) (ws more : List (Handle × Plain)) (ma : Moves t p u a) (mb : Moves t u q b) (ra : Raises olds p u ws)
@@ -111,6 +111,10 @@ module _ (olds : List Handle) (t : Tables) (p u q : Pass) (a b : Made) (ws more 
     (unread : (m : Handle) (x : Plain) → Member m olds → Member (m, x) more → (s : Stands) → Member s a.links → s.of.slot ≢ m.slot) where
   known_then : (m : Handle) (x : Plain) (us : List ℕ) → Member (m, x) more → Knows p.values.knows m us → Knows u.values.knows m us
   known_then m x us i k = ra.stays m us k (λ y j. apart m y x j i)
+
+  sees_then : (m : Handle) (x : Plain) (y : Value Handle) → Member (m, x) more → Sees p.values.knows m y
+      → Sees u.values.knows m y
+  sees_then m x y i s = (s.0, s.1, known_then m x s.0 i s.2, s.3, s.4)
 
   lead_then : (m : Handle) (x : Plain) (ns : List ℕ) → Member m olds → Member (m, x) more → LeadUpIn p.readers.knows p.marks.knows ns m.slot → LeadUpIn u.readers.knows u.marks.knows ns m.slot
   lead_then m x ns o i l =
@@ -125,7 +129,7 @@ module _ (olds : List Handle) (t : Tables) (p u q : Pass) (a b : Made) (ws more 
   pub only_then : Only olds u q more → Only olds p q (ws ++ more)
   only_then ob ns h y l =
       let first = ra.only ns (λ m x o i d. h m x o (member_left (m, x) ws more i) d) y in
-      let second = ob ns (λ m x o i d. lead_then m x ns o i (h m x o (member_right (m, x) ws more i) (λ k. d (known_then m x (words_of x) i k)))) y in
+      let second = ob ns (λ m x o i d. lead_then m x ns o i (h m x o (member_right (m, x) ws more i) (λ s. d (sees_then m x (value_of x) i s)))) y in
       elim (less_or (times y p.marks.knows.marked) (times y u.marks.knows.marked) (times y q.marks.knows.marked) l) [
         | inl z ↦ first z
         | inr z ↦ second z
@@ -152,6 +156,11 @@ module _ (olds : List Handle) (t : Tables) (p u q : Pass) (a b : Made) (ws more 
             elim (member_cases (m, x) ws more i) [
               | inl j ↦ mb.stays.mine m (ra.owned m x j)
               | inr j ↦ rb.owned m x j
+            ];
+        told = λ m x i.
+            elim (member_cases (m, x) ws more i) [
+              | inl j ↦ (let s = ra.told m x j in (s.0, s.1, rb.stays m s.0 s.2 (λ y k. apart m x y j k), s.3, s.4))
+              | inr j ↦ rb.told m x j
             ];
       }
 

@@ -1,10 +1,11 @@
 -- What a warning before a write does to a pass.
 use Rattle.std.proofs.lemmas.Grind.{common_steps}
-use Rattle.std.proofs.Common.{◌≡◌, ◌≢◌, ℕ, zero, suc, ◌+◌, ◌≤◌, ◌<◌, ◌==◌, drop, map, List, [], ◌∷◌, ◌++◌, refl, ap, sym, ◌∙◌, subst, inl, inr, ⊎_elim, arith}
+use Rattle.std.proofs.Common.{◌≡◌, ◌≢◌, ℕ, zero, suc, ◌+◌, ◌≤◌, ◌<◌, ◌==◌, drop, map, List, [], ◌∷◌, ◌++◌, Some, refl, ap, sym, ◌∙◌, subst, inl, inr, ⊎_elim, arith}
 use Rattle.std.specs.Prelude.{sum_by}
 use Rattle.psac_ops.specs.declared.plain.Handle.{Handle}
 use Rattle.psac_ops.specs.declared.plain.Plain.{Plain}
-use Rattle.psac_ops.specs.Words.{words_of}
+use Rattle.psac_ops.specs.Named.{value_of}
+use Rattle.psac_ops.specs.Words.{words_of, of_words}
 use Rattle.psac_slots.specs.Handles.{Member}
 use Rattle.psac_slots.specs.Claiming.{times}
 use Rattle.psac_values.specs.declared.view.ValueView.{ValueView}
@@ -17,7 +18,7 @@ use Rattle.psac_fork.specs.declared.tables.Pass.{Pass}
 use Rattle.psac_fork.specs.declared.tables.Tables.{Tables}
 use Rattle.psac_fork.specs.Whole.{IsOf, HasRoom}
 use Rattle.psac_record.specs.Kept.{Stands}
-use Rattle.psac_trace.specs.Rights.{Tidy}
+use Rattle.psac_trace.specs.Rights.{Sees, Tidy}
 use Rattle.psac_trace.specs.Fit.{Fit}
 use Rattle.psac_trace.specs.Grown.{MoreClaims, MoreLinks, as_link, nothing, claims_in, count, Moves}
 use Rattle.psac_trace.specs.Raising.{Raises, Roused, AllBusy}
@@ -29,7 +30,7 @@ use Rattle.psac_trace.proofs.Claims.{append_none, claims_same, times_append}
 use Rattle.psac_trace.proofs.Growing.{values_looked, nodes_same}
 use Rattle.psac_trace.proofs.Fitting.{sets_values, sets_links, rooted_same}
 use Rattle.psac_trace.proofs.Moving.{each_cap, BesideValues}
-use Rattle.psac_trace.proofs.Views.{kept_looked, wrote_has}
+use Rattle.psac_trace.proofs.Views.{kept_looked, wrote_has, wrote_here, value_is}
 use Rattle.psac_trace.proofs.Raised.{wrote_knows}
 
 has_walk : (v u : ReadersView) → mods_of u.walk ≡ mods_of v.walk → u.shared ≡ v.shared → (x : ℕ) → readers.Has x v → readers.Has x u
@@ -78,6 +79,7 @@ module _ (t : Tables) (olds : List Handle) (m : Handle) (ws : List ℕ) (p q : P
               let c = ap (λ (z : MarksView). times x z.busy) e in
               let d = times_append x p.marks.knows.busy r.marks.1 in
               ⊎_elim (λ (i : 0 < times x p.marks.knows.marked). inl (omega (arith, a, b, i))) (λ (i : 0 < times x p.marks.knows.busy). inr (omega (arith, c, d, i))) h;
+          asks = ap (λ (z : MarksView). z.asks) e;
         };
       }
 
@@ -85,7 +87,7 @@ module _ (t : Tables) (olds : List Handle) (m : Handle) (ws : List ℕ) (p q : P
   roused_room h = (ap (λ (z : ValueView). z.claims.over) r.looked.1 ∙ h.0, ap (λ z. z.over) r.claims ∙ h.1, ap (λ (z : MarksView). z.claims.over) r.marks.2 ∙ h.2)
 
   -- and the write
-  module _ (x : Plain) (words : ws ≡ words_of x) (us : List ℕ) (mine : Has q.values.knows m) (q' : Pass) (be : BesideValues q q') (wr : q'.values.knows ≡ wrote m.slot us q.values.knows) where
+  module _ (x : Plain) (words : ws ≡ words_of x) (us : List ℕ) (back : of_words us ≡ Some x) (mine : Has q.values.knows m) (q' : Pass) (be : BesideValues q q') (wr : q'.values.knows ≡ wrote m.slot us q.values.knows) where
     at_one_put : (n : Handle) (y : Plain) → Member {A = Handle × Plain} (n, y) ((m, x) ∷ []) → (m ≡ n) × (x ≡ y)
     at_one_put n y i = ⊎_elim (λ (e : (m, x) ≡ (n, y)). (ap (λ (z : Handle × Plain). z.0) e, ap (λ (z : Handle × Plain). z.1) e)) (λ (b : ⊥). absurd b) i
 
@@ -100,13 +102,18 @@ module _ (t : Tables) (olds : List Handle) (m : Handle) (ws : List ℕ) (p q : P
               let d' : vs ≢ ws = λ z. d (z ∙ words ∙ ap words_of e.1) in
               subst (λ z. AllBusy p.readers.knows q'.marks.knows z) (ap (λ (z : Handle). z.slot) e.0) (subst (λ (z : MarksView). AllBusy p.readers.knows z m.slot) (sym marks_are) (r.warned vs o' k' d'));
           only = λ ns h y less.
-              r.only ns (λ o n. h m x o (inl refl) (λ k. n (subst (Knows p.values.knows m) (sym words) k))) y (subst (λ (z : MarksView). times y p.marks.knows.marked < times y z.marked) marks_are less);
+              r.only ns (λ o k n. h m x o (inl refl) (n x words)) y (subst (λ (z : MarksView). times y p.marks.knows.marked < times y z.marked) marks_are less);
           stays = λ n vs k away.
               let k' = subst (λ z. Knows z n vs) (sym r.looked.1) k in
               subst (λ z. Knows z n vs) (sym wr) (wrote_knows q.values.knows m us (kept_looked p.values.knows q.values.knows r.looked tidy).tidy mine n vs (λ e. away x (inl (ap (λ z. (z, x)) e))) k');
           owned = λ n y i.
               let e = at_one_put n y i in
               subst (Has q'.values.knows) e.0 (subst (λ z. Has z m) (sym wr) (wrote_has q.values.knows m us (kept_looked p.values.knows q.values.knows r.looked tidy).tidy mine m mine));
+          told = λ n y i.
+              let e = at_one_put n y i in
+              let here = wrote_here q.values.knows m us (kept_looked p.values.knows q.values.knows r.looked tidy).tidy mine x back in
+              subst (λ z. Sees q'.values.knows z (value_of y)) e.0
+              (subst (λ z. Sees q'.values.knows m (value_of z)) e.1 (subst (λ z. Sees z m (value_of x)) (sym wr) here));
         }
 
 -- members by their places in a list, and by how often they stand there
@@ -179,8 +186,9 @@ module _ (t : Tables) (olds : List Handle) (m : Handle) (ws : List ℕ) (p q : P
   learned_mods s chain (e ∷ es) = ap (λ z. e.of ∷ z) (learned_mods s chain es)
 
   module _ (before : List ℕ) (words : (us : List ℕ) → Knows p.values.knows m us → before ≡ us) (look : q.values.knows ≡ looked p.values.knows) (of_q : IsOf q t) (chain : List ℕ) (sets : q.readers.knows ≡ readers.learned m.slot chain p.readers.knows) (r : Raised p.readers.knows m.slot p.marks.knows q.marks.knows) where
-    pub rouse_raised : Member m olds → (before ≡ ws → ⊥) → Roused t olds m ws p q
-    rouse_raised o differ =
+    pub rouse_raised : Member m olds → (before ≡ ws → ⊥)
+        → ((x : Plain) → ws ≡ words_of x → of_words before ≡ Some x → ⊥) → Roused t olds m ws p q
+    rouse_raised o differ apart =
         record {
           of = of_q;
           looked = (suc p.values.knows.looks, look);
@@ -195,5 +203,7 @@ module _ (t : Tables) (olds : List Handle) (m : Handle) (ws : List ℕ) (p q : P
           only = λ ns h y less.
               let a = ap (λ (z : MarksView). times y z.marked) r.becomes in
               let b = times_append y p.marks.knows.marked r.marks in
-              r.within ns (h o (λ k. differ (words ws k))) y (time_in y r.marks (omega (arith, a, b, less)));
+              let other : (x : Plain) → ws ≡ words_of x → Sees p.values.knows m (value_of x) → ⊥ =
+              λ x e s. apart x e (ap of_words (words s.0 s.2) ∙ s.3 ∙ ap (λ z. Some z) (value_is s.1 x s.4)) in
+              r.within ns (h o (λ k. differ (words ws k)) other) y (time_in y r.marks (omega (arith, a, b, less)));
         }

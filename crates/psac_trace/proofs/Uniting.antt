@@ -4,7 +4,6 @@ use Rattle.std.specs.Prelude.{filter, cond, ltb}
 use Rattle.std.proofs.lemmas.Grind.{common_steps}
 use Rattle.psac_ops.specs.declared.plain.Handle.{Handle}
 use Rattle.psac_ops.specs.declared.plain.Plain.{Plain}
-use Rattle.psac_ops.specs.Words.{words_of}
 use Rattle.psac_syntax.specs.declared.program.Stmt.{Stmt}
 use Rattle.psac_slots.specs.Handles.{Member}
 use Rattle.psac_slots.specs.Claiming.{times}
@@ -376,10 +375,10 @@ module _ (w : Setting Handle) (olds : List Handle) (p l k : Pass) (ls rs rest : 
         let f : times y k.marks.knows.marked ≡ 0 = ap (λ (z : MarksView). times y z.marked) km ∙ ap (times y) (right_marked p.marks.knows nodes) in
         let one = oa ns (λ m x o i n.
         lead_up_in p.readers.knows l.readers.knows p.marks.knows l.marks.knows m.slot (some_left m.slot) path_left ns
-        (h m x o (member_left (m, x) a b i) (λ kn. n (known_left m (words_of x) kn (ha m x i))))) y in
+        (h m x o (member_left (m, x) a b i) (λ s. n (s.0, s.1, known_left m s.0 s.2 (ha m x i), s.3, s.4)))) y in
         let two = ob ns (λ m x o i n.
         lead_up_in p.readers.knows k.readers.knows p.marks.knows k.marks.knows m.slot (some_right m.slot) path_right ns
-        (h m x o (member_right (m, x) a b i) (λ kn. n (known_right m (words_of x) kn (hb m x i))))) y in
+        (h m x o (member_right (m, x) a b i) (λ s. n (s.0, s.1, known_right m s.0 s.2 (hb m x i), s.3, s.4)))) y in
         elim (zero_or (times y k'.marks.knows.marked)) [
           | inl z ↦ one (omega (arith, c, d, e, z, less))
           | inr z ↦ two (omega (arith, f, z))
@@ -409,5 +408,10 @@ module _ (w : Setting Handle) (olds : List Handle) (p l k : Pass) (ls rs rest : 
               elim (member_cases (m, x) a b i) [
                 | inl y ↦ un.has m (inl (ra.owned m x y))
                 | inr y ↦ un.has m (inr (rb.owned m x y))
+              ];
+          told = λ m x i.
+              elim (member_cases (m, x) a b i) [
+                | inl y ↦ (let s = ra.told m x y in (s.0, s.1, un.knows m s.0 (inl s.2), s.3, s.4))
+                | inr y ↦ (let s = rb.told m x y in (s.0, s.1, un.knows m s.0 (inr s.2), s.3, s.4))
               ];
         }

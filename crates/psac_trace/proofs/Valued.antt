@@ -12,7 +12,7 @@ use Rattle.psac_ops.specs.Table.{applied, of_one, of_two, fits_64, in_64, quotie
 use Rattle.psac_syntax.specs.declared.program.Expr.{Expr, map-Expr, roll-Expr}
 use Rattle.psac_syntax.specs.declared.program.Expr.TheOpen.{Expr-F}
 use Rattle.psac_syntax.specs.declared.program.Expr.TheFolds.{fold-Expr, fold-roll-Expr, ind-Expr}
-use Rattle.psac_syntax.specs.Folds.{expr_fold_is}
+use Rattle.psac_syntax.proofs.Folds.{expr_fold_is}
 use Rattle.psac_model.specs.declared.ends.FaultKind.{FaultKind}
 use Rattle.psac_model.specs.Names.{Env, bound}
 use Rattle.psac_model.specs.Expression.{Setting, value_of, value_step, in_order, or_kind, of_op, cell_at, cell_in, text_at}

@@ -4,7 +4,7 @@ use Rattle.std.specs.Prelude.{cond}
 use Rattle.psac_ops.specs.declared.plain.Handle.{Handle}
 use Rattle.psac_ops.specs.declared.plain.Plain.{Plain}
 use Rattle.psac_ops.specs.declared.plain.Plain.TheVariants as plain
-use Rattle.psac_ops.specs.Value.{Value}
+use Rattle.psac_ops.specs.Value.{Value, nil, bool, int, text, ref, pair}
 use Rattle.psac_ops.specs.Named.{value_of}
 use Rattle.psac_ops.specs.Words.{of_words, words_of}
 use Rattle.psac_slots.specs.Handles.{Member}
@@ -131,6 +131,27 @@ sees_same v u mine known m x s = (
   s.3,
   s.4,
 )
+
+plain_of : Value Handle → Plain
+plain_of nil = plain.Nil
+plain_of (bool b) = plain.Bool b
+plain_of (int i) = plain.Int i
+plain_of (text id len) = plain.Text (record { id = id; len = len })
+plain_of (ref m) = plain.Ref m
+plain_of (pair m n) = plain.Pair m n
+
+plain_back : (p : Plain) → plain_of (value_of p) ≡ p
+unfolding plain_of
+plain_back plain.Nil = refl
+plain_back (plain.Bool b) = refl
+plain_back (plain.Int i) = refl
+plain_back (plain.Text t) = refl
+plain_back (plain.Ref h) = refl
+plain_back (plain.Pair g h) = refl
+
+-- no two plain values are the same value
+pub value_is : (p q : Plain) → value_of p ≡ value_of q → p ≡ q
+value_is p q e = sym (plain_back p) ∙ ap plain_of e ∙ plain_back q
 
 pub three_is : (p : Plain) → of_words (three_of (words_of p)) ≡ of_words (words_of p)
 three_is plain.Nil = refl

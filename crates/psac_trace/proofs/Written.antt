@@ -5,7 +5,7 @@ use Rattle.psac_ops.specs.Value.{Value, nil, bool, int, text, ref, pair}
 use Rattle.psac_syntax.specs.declared.program.Stmt.{Stmt, map-Stmt, roll-Stmt}
 use Rattle.psac_syntax.specs.declared.program.Stmt.TheOpen.{Stmt-F}
 use Rattle.psac_syntax.specs.declared.program.Stmt.TheFolds.{fold-Stmt, fold-roll-Stmt, ind-Stmt}
-use Rattle.psac_syntax.specs.Folds.{stmt_fold_is}
+use Rattle.psac_syntax.proofs.Folds.{stmt_fold_is}
 use Rattle.psac_model.specs.Names.{Env, bound}
 use Rattle.psac_model.specs.Series.{has, without, all_in}
 use Rattle.psac_laws.specs.Standing.{in_both, every, distinct, names_known, Standing, Rule, is_new, with_values, settled, one_by_one, left_by, series_step, series_of}

@@ -75,10 +75,11 @@ pub record MoreNodes (v u : MarksView) (made : List OwnView) : Type 0 where
 
 -- marks
 
--- marks were only added
+-- marks were only added, and no node was asked
 pub record MoreMarks (v u : MarksView) : Type 0 where
   pub marked : (x : ℕ) → times x v.marked ≤ times x u.marked
   pub busy : (x : ℕ) → IsBusy v x → IsBusy u x
+  pub asks : u.asks ≡ v.asks
 
 -- links
 

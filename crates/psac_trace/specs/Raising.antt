@@ -2,6 +2,7 @@
 use Rattle.std.specs.Prelude.{◌≡◌, ◌≢◌, ◌⊎◌, ℕ, ◌+◌, ◌≤◌, ◌<◌, false, List, [], ◌∷◌, ◌++◌, Some}
 use Rattle.psac_ops.specs.declared.plain.Handle.{Handle}
 use Rattle.psac_ops.specs.declared.plain.Plain.{Plain}
+use Rattle.psac_ops.specs.Named.{value_of}
 use Rattle.psac_ops.specs.Words.{words_of}
 use Rattle.psac_syntax.specs.declared.program.Stmt.{Stmt}
 use Rattle.psac_slots.specs.Handles.{Member, word_of}
@@ -23,7 +24,7 @@ use Rattle.psac_model.specs.Names.{Env}
 use Rattle.psac_model.specs.Expression.{Setting}
 use Rattle.psac_laws.specs.Standing.{Standing, series}
 use Rattle.psac_record.specs.Kept.{Kept, E, A, W, S, P, R}
-use Rattle.psac_trace.specs.Rights.{Heap, Target, Ready}
+use Rattle.psac_trace.specs.Rights.{Heap, Sees, Target, Ready}
 use Rattle.psac_trace.specs.Asking.{Looked}
 use Rattle.psac_trace.specs.Fit.{is_spare}
 use Rattle.psac_trace.specs.Told.{Ended, Good, Fault, Other}
@@ -70,10 +71,12 @@ pub record Warns (w : Setting Handle) (olds : List Handle) (body : List Stmt) (e
   pub ready : Ready w st end.unwritten env p.values.knows base
   pub may : (m : Handle) → Member m olds → Target st end.unwritten env m → Raisable p m
 
--- what is marked anew where these were written stands wherever the live readers of all old destinations that got other words lead up
+-- what is marked anew where these were written stands wherever the live readers of all old destinations that got other values lead up
 abbrev pub Only : List Handle → Pass → Pass → List (Handle × Plain) → Type 0
 Only olds p q ws =
-    (ns : List ℕ) → ((m : Handle) (x : Plain) → Member m olds → Member (m, x) ws → (Knows p.values.knows m (words_of x) → ⊥) → LeadUpIn p.readers.knows p.marks.knows ns m.slot) → (y : ℕ) → times y p.marks.knows.marked < times y q.marks.knows.marked → Member y ns
+    (ns : List ℕ) → ((m : Handle) (x : Plain) → Member m olds → Member (m, x) ws → (Sees p.values.knows m (value_of x) → ⊥)
+    → LeadUpIn p.readers.knows p.marks.knows ns m.slot)
+    → (y : ℕ) → times y p.marks.knows.marked < times y q.marks.knows.marked → Member y ns
 
 -- what a run raised that made these writes
 pub record Raises (olds : List Handle) (p q : Pass) (ws : List (Handle × Plain)) : Type 0 where
@@ -84,6 +87,8 @@ pub record Raises (olds : List Handle) (p q : Pass) (ws : List (Handle × Plain)
   -- what isn't written keeps its words
   pub stays : (m : Handle) (us : List ℕ) → Knows p.values.knows m us → ((x : Plain) → Member (m, x) ws → ⊥) → Knows q.values.knows m us
   pub owned : (m : Handle) (x : Plain) → Member (m, x) ws → Has q.values.knows m
+  -- and what is written is known
+  pub told : (m : Handle) (x : Plain) → Member (m, x) ws → Sees q.values.knows m (value_of x)
 
 -- without old destinations nothing is marked
 abbrev pub Calm : List Handle → Pass → Pass → Type 0
@@ -113,4 +118,8 @@ pub record Roused (t : Tables) (olds : List Handle) (m : Handle) (ws : List ℕ)
   pub links : q.readers.knows.links ≡ p.readers.knows.links
   pub marks : (xs : List ℕ) × (ys : List ℕ) × (q.marks.knows ≡ with_marks xs ys p.marks.knows)
   pub warned : (us : List ℕ) → Member m olds → Knows p.values.knows m us → us ≢ ws → AllBusy p.readers.knows q.marks.knows m.slot
-  pub only : (ns : List ℕ) → (Member m olds → (Knows p.values.knows m ws → ⊥) → LeadUpIn p.readers.knows p.marks.knows ns m.slot) → (y : ℕ) → times y p.marks.knows.marked < times y q.marks.knows.marked → Member y ns
+  -- and no more, where neither these words nor their value are known
+  pub only : (ns : List ℕ) → (Member m olds → (Knows p.values.knows m ws → ⊥)
+      → ((x : Plain) → ws ≡ words_of x → Sees p.values.knows m (value_of x) → ⊥)
+      → LeadUpIn p.readers.knows p.marks.knows ns m.slot)
+      → (y : ℕ) → times y p.marks.knows.marked < times y q.marks.knows.marked → Member y ns

@@ -1,5 +1,7 @@
 //! What a write does for the readers of a destination that the run didn't make.
-ghost use Rattle.std.specs.Prelude.{◌≡◌, ℕ, true, false, List};
+ghost use Rattle.std.specs.Prelude.{◌≡◌, ℕ, true, false, List, Some};
+ghost use Rattle.psac_ops.specs.declared.plain.Plain.{Plain};
+ghost use Rattle.psac_ops.specs.Words.{of_words, words_of};
 ghost use Rattle.psac_slots.specs.Handles.{Member};
 ghost use Rattle.psac_fork.specs.Whole.{IsOf};
 ghost use Rattle.psac_trace.specs.Raising.{Raisable, Roused};
@@ -21,10 +23,11 @@ fn is_among(olds: &[Handle], m: Handle) -> bool
     false
 }
 
-/// Whether words are the same.
+/// Whether words are the same; others hold another value.
 fn is_same(a: [u64; 3], b: [u64; 3]) -> bool
     ensures yes { result ≡ true → a ≡ b }
     ensures no { result ≡ false → a ≡ b → ⊥ }
+    ensures other { result ≡ false → (x : Plain) → b ≡ words_of x → of_words a ≡ Some x → ⊥ }
 {
     a[0] == b[0] && a[1] == b[1] && a[2] == b[2]
 }

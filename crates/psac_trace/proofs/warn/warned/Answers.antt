@@ -15,4 +15,4 @@ returns c =
     let k = c.read-before.ensures in
     let r = c.raise_readers.ensures in
     let of = c.requires.of in
-    rouse_raised c.args.tables.now c.args.olds.now c.args.m c.args.words c.args.pass _ of c.read-before.result k.words k.looks (k.table ∙ of.0, r.of.0 ∙ of.1, r.of.1 ∙ of.2) r.sets.0 r.sets.1 r.raised (c.if-not-is_among.ensures.yes refl) (c.if-is_same.ensures.no refl)
+    rouse_raised c.args.tables.now c.args.olds.now c.args.m c.args.words c.args.pass _ of c.read-before.result k.words k.looks (k.table ∙ of.0, r.of.0 ∙ of.1, r.of.1 ∙ of.2) r.sets.0 r.sets.1 r.raised (c.if-not-is_among.ensures.yes refl) (c.if-is_same.ensures.no refl) (c.if-is_same.ensures.other refl)
