@@ -1,5 +1,5 @@
 -- Which reads stand below a node of a record, and what each read of a record tells.
-use Rattle.std.proofs.Common.{◌≡◌, ◌≢◌, ◌⊎◌, ℕ, List, [], ◌∷◌, ◌++◌, map, Option, Some, IfSome, refl, ap, sym, subst}
+use Rattle.std.proofs.Common.{◌≡◌, ◌≢◌, ◌⊎◌, ℕ, List, [], ◌∷◌, ◌++◌, map, Option, Some, IfSome, refl, sym, subst}
 use Rattle.std.proofs.Common.{inl, inr, ⊎_elim}
 use Rattle.psac_ops.specs.declared.plain.Handle.{Handle}
 use Rattle.psac_ops.specs.Value.{Value}
@@ -21,7 +21,7 @@ use Rattle.psac_repair.specs.Marks.{IsMarked, Nodes}
 use Rattle.psac_repair.specs.Planted.{slots, Once}
 use Rattle.psac_repair.specs.Watched.{Watched}
 use Rattle.psac_repair.specs.Founded.{AllPresent, Founded}
-use Rattle.psac_repair.proofs.Rewiring.{led_node, node_in, reads_node}
+use Rattle.psac_repair.proofs.Rewiring.{led_node, reads_node}
 
 -- the read stands at the node in the slot, or below it
 abbrev pub Beneath : Tree → ℕ → Stands → Type 0

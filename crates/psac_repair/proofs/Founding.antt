@@ -1,18 +1,17 @@
 -- Marks and the blocks that they stand over, where two parts stand one after the other.
-use Rattle.std.proofs.Common.{◌≡◌, ◌≢◌, ◌⊎◌, ◌==◌, ℕ, ◌+◌, ◌-◌, ◌<◌, Bool, true, false, not, List, [], ◌∷◌, ◌++◌, map}
-use Rattle.std.proofs.Common.{Option, Some, IfSome, refl, ap, sym, ◌∙◌, subst, inl, inr, ⊎_elim, arith}
+use Rattle.std.proofs.Common.{◌≡◌, ◌≢◌, ◌⊎◌, ◌==◌, ℕ, ◌+◌, ◌-◌, ◌<◌, true, false, not, List, [], ◌∷◌, ◌++◌}
+use Rattle.std.proofs.Common.{Option, Some, refl, ap, sym, ◌∙◌, subst, inl, inr, ⊎_elim, arith}
 use Rattle.std.specs.Prelude.{filter}
 use Rattle.psac_ops.specs.declared.plain.Handle.{Handle}
 use Rattle.psac_ops.specs.declared.plain.Plain.{Plain}
 use Rattle.psac_ops.specs.Value.{Value}
-use Rattle.psac_ops.specs.Named.{value_of, same_handle}
+use Rattle.psac_ops.specs.Named.{value_of}
 use Rattle.psac_slots.specs.Handles.{Member, word_of}
 use Rattle.psac_slots.specs.Claiming.{times}
 use Rattle.psac_slots.proofs.Pairs.{member_left, member_right, member_cases, member_filter, filter_member}
 use Rattle.psac_laws.proofs.Places.{nat_is, nat_same, some_is, zero_or, test_or, not_both}
 use Rattle.psac_values.specs.declared.view.ValueView.{ValueView}
 use Rattle.psac_values.specs.Knowing.{Has}
-use Rattle.psac_readers.specs.declared.view.Stage.TheVariants.{In}
 use Rattle.psac_readers.specs.declared.view.LinkView.{LinkView}
 use Rattle.psac_readers.specs.declared.view.ReadersView.{ReadersView}
 use Rattle.psac_marks.specs.declared.view.OwnView.{OwnView}
@@ -23,28 +22,27 @@ use Rattle.psac_marks.specs.Passes.{slot_of}
 use Rattle.psac_marks.proofs.Parts.{place_own, place_shared, place_cases}
 use Rattle.psac_raise.specs.Raise.{IsSlot, LeadsIn}
 use Rattle.psac_raise.proofs.Going.{slot_is}
-use Rattle.psac_traced.specs.Mending.{mended}
-use Rattle.psac_traced.specs.Holds.{EachOf, EachRead}
+use Rattle.psac_traced.specs.Holds.{EachRead}
 use Rattle.psac_record.specs.Kept.{Kept as Tree, E, A, W, S, P, R, Stands, links_of, bare}
-use Rattle.psac_trace.specs.Rights.{Sees, Tidy, Kept}
+use Rattle.psac_trace.specs.Rights.{Sees, Tidy}
 use Rattle.psac_trace.specs.Raising.{puts}
 use Rattle.psac_trace.proofs.Heaps.{handle_or}
 use Rattle.psac_trace.proofs.Raised.{slots_apart}
 use Rattle.psac_repair.specs.Divided.{writes_slot}
-use Rattle.psac_repair.specs.Marks.{Present, IsMarked, Sits, Nodes}
+use Rattle.psac_repair.specs.Marks.{Present, IsMarked, Sits}
 use Rattle.psac_repair.specs.Stood.{Owned}
-use Rattle.psac_repair.specs.Planted.{slots, Once, Planted, Passed}
+use Rattle.psac_repair.specs.Planted.{slots, Planted, Passed}
 use Rattle.psac_repair.specs.Linked.{standing}
-use Rattle.psac_repair.specs.Rewired.{Writes, Unread, Ordered, NodeIn, Wired, Relinks}
+use Rattle.psac_repair.specs.Rewired.{Unread, Ordered, NodeIn, Wired, Relinks}
 use Rattle.psac_repair.specs.Watched.{Watched, Steady}
 use Rattle.psac_repair.specs.Counted.{done}
 use Rattle.psac_repair.specs.Founded.{AllPresent, Coherent, Founded, Altered, LeadOut, OnlyWoken, Idle}
 use Rattle.psac_repair.specs.FoundLaws.{PartsFound, StepsFound, TurnsFound}
 use Rattle.psac_repair.proofs.Passing.{kept_on}
-use Rattle.psac_repair.proofs.Rewiring.{wrote_slot, free_first, free_second, writes_first, writes_second, link_back}
+use Rattle.psac_repair.proofs.Rewiring.{wrote_slot, free_first, free_second, writes_first, link_back}
 use Rattle.psac_repair.proofs.Rewiring.{led_on, led_wider, led_nodes, node_in}
 use Rattle.psac_repair.proofs.Dividing.{pair_planted, pair_wired, pair_ordered}
-use Rattle.psac_repair.proofs.Beneath.{Beneath, beneath_in, led_past, each_both, read_at, IsKnown, watched_known}
+use Rattle.psac_repair.proofs.Beneath.{Beneath, led_past, each_both, read_at, IsKnown, watched_known}
 use Rattle.psac_repair.proofs.Beneath.{founded_by}
 
 -- what a record wrote the pass has, and knows

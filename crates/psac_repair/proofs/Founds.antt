@@ -1,14 +1,13 @@
 -- The laws of marks and the blocks that they stand over.
-use Rattle.std.proofs.Common.{◌≡◌, ◌≢◌, ◌⊎◌, ℕ, ◌+◌, ◌≤◌, ◌<◌, ◌&&◌, Bool, true, false, not, List, [], ◌∷◌, ◌++◌, map}
-use Rattle.std.proofs.Common.{Option, Some, None, refl, ap, sym, ◌∙◌, subst, inl, inr, ⊎_elim, arith}
-use Rattle.std.specs.Prelude.{filter, ltb}
+use Rattle.std.proofs.Common.{◌≡◌, ℕ, ◌+◌, ◌<◌, ◌&&◌, Bool, true, false, not, List, [], ◌∷◌, map}
+use Rattle.std.proofs.Common.{Option, None, refl, ap, sym, ◌∙◌, subst, inl, inr, ⊎_elim, arith}
 use Rattle.psac_ops.specs.declared.plain.Handle.{Handle}
 use Rattle.psac_ops.specs.declared.plain.Plain.{Plain}
 use Rattle.psac_ops.specs.Value.{Value}
-use Rattle.psac_ops.specs.Named.{value_of, same_handle}
-use Rattle.psac_slots.specs.Handles.{Member, word_of}
+use Rattle.psac_ops.specs.Named.{value_of}
+use Rattle.psac_slots.specs.Handles.{Member}
 use Rattle.psac_slots.specs.Claiming.{times}
-use Rattle.psac_slots.proofs.Pairs.{member_left, member_right, member_cases, member_filter}
+use Rattle.psac_slots.proofs.Pairs.{member_left, member_right, member_filter}
 use Rattle.psac_laws.proofs.Places.{zero_or}
 use Rattle.psac_values.specs.declared.view.ValueView.{ValueView}
 use Rattle.psac_values.specs.Knowing.{United}
@@ -20,14 +19,11 @@ use Rattle.psac_marks.specs.Steps as marks
 use Rattle.psac_marks.specs.Marked.{Place}
 use Rattle.psac_marks.specs.Passes.{Leads}
 use Rattle.psac_marks.proofs.Counted.{times_both, times_in, times_out, times_found}
-use Rattle.psac_raise.specs.Raise.{IsSlot, LeadsIn, LeadUpIn}
-use Rattle.psac_raise.proofs.Going.{slot_is}
-use Rattle.psac_traced.specs.Mending.{unlike}
+use Rattle.psac_raise.specs.Raise.{LeadsIn, LeadUpIn}
 use Rattle.psac_traced.specs.Rec.{writes}
 use Rattle.psac_traced.specs.Places.{Makes}
 use Rattle.psac_traced.specs.Holds.{EachOf, EachRead}
 use Rattle.psac_traced.proofs.Holds.{each_read_more}
-use Rattle.psac_record.specs.declared.parts.Reading.{Reading}
 use Rattle.psac_record.specs.declared.parts.Seen.{Seen}
 use Rattle.psac_record.specs.Kept.{Kept as Tree, E, A, W, S, P, R, Stands, stands, links_of, reads_of, bare}
 use Rattle.psac_trace.specs.Rights.{In, Sees}
@@ -45,13 +41,13 @@ use Rattle.psac_repair.specs.WatchLaws.{left_view, right_view}
 use Rattle.psac_repair.specs.Counted.{done}
 use Rattle.psac_repair.specs.Founded.{AllPresent, Coherent, Founded, Altered, LeadOut, OnlyWoken, Idle}
 use Rattle.psac_repair.specs.FoundLaws.{NoneFounded, FewerFounded, UnmarkedFounded, SomethingRuns, RootRaised}
-use Rattle.psac_repair.specs.FoundLaws.{RootsFound, FrontFounds}
-use Rattle.psac_repair.specs.FoundLaws.{MadeFounds, WroteFounds, SidesFound, SidesFoundUp, BlockFounds, BlocksFound}
+use Rattle.psac_repair.specs.FoundLaws.{RootsFound}
+use Rattle.psac_repair.specs.FoundLaws.{MadeFounds, WroteFounds, SidesFound, SidesFoundUp, BlocksFound}
 use Rattle.psac_repair.specs.FoundLaws.{RunsOnly}
 use Rattle.psac_repair.proofs.Forked.{slot_touch, touch_slot}
 use Rattle.psac_repair.proofs.Rewiring.{led_on, led_wider, link_back, node_in}
 use Rattle.psac_repair.proofs.Rerunning.{readers_lead}
-use Rattle.psac_repair.proofs.Parting.{in_is, filter_some, left_kept, right_kept, beside_not_right, not_over, L, K}
+use Rattle.psac_repair.proofs.Parting.{filter_some, left_kept, right_kept, beside_not_right, not_over, L, K}
 use Rattle.psac_repair.proofs.Dividing.{busy_left, busy_right, left_place, right_place, outer_not_here}
 use Rattle.psac_repair.proofs.Waking.{left_back, right_back}
 use Rattle.psac_repair.proofs.Counting.{same_block, other_block}

@@ -54,8 +54,11 @@ pub mod Starting
 pub mod Gathering
 pub mod Retold
 pub mod Redone
+pub mod Again
 pub mod Whole
+pub mod Sparing
 pub mod Walking
+pub mod Spending
 pub mod Pairing
 pub mod Indexed
 pub mod Blocking

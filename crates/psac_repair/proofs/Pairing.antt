@@ -120,12 +120,14 @@ module _ (g : World) where
     at_once : (us : List ℕ) (above : Option Handle) (b : Whole n l k rest p us above) → SidesGo (program g b.checked) us above n l k rest (views p)
     at_once us above b = sides_at_once (program g b.checked) us above n l k rest (views p) b
 
-    left_here : (us : List ℕ) (above : Option Handle) (b : Whole n l k rest p us above) → BeforeIn g (n.slot ∷ us) (Some n) (bare l) l (views a)
+    pub left_here : (us : List ℕ) (above : Option Handle) (b : Whole n l k rest p us above)
+        → BeforeIn g (n.slot ∷ us) (Some n) (bare l) l (views a)
     left_here us above b =
         subst (λ z. BeforeIn g (n.slot ∷ us) (Some n) (bare l) l z) (sym mine)
         ((at_once us above b).left p.beside (subst Roomy mine room))
 
-    right_here : (us : List ℕ) (above : Option Handle) (b : Whole n l k rest p us above) → BeforeIn g (n.slot ∷ us) (Some n) (bare k) k (views c)
+    pub right_here : (us : List ℕ) (above : Option Handle) (b : Whole n l k rest p us above)
+        → BeforeIn g (n.slot ∷ us) (Some n) (bare k) k (views c)
     right_here us above b =
         subst (λ z. BeforeIn g (n.slot ∷ us) (Some n) (bare k) k z) (sym theirs)
         ((at_once us above b).right p.beside (subst Roomy theirs space))

@@ -63,7 +63,7 @@ sits_owned m above n h s e = (record { node = n; parent = slot_of above }, s.0, 
 
 -- how calls ended
 
-no_good : false ≡ true → ⊥
+pub no_good : false ≡ true → ⊥
 no_good e = not_both e refl
 
 no_bad : true ≡ false → ⊥
@@ -147,7 +147,8 @@ module _ (g : World) where
     abbrev IsQuiet : Views → Type 0
     IsQuiet z = NoneMarked z.marks (slots k) × EachRead (Present z.values) (bare k)
 
-    quiet_asked : (us : List ℕ) (above : Option Handle) (stood : Rec Handle) → BeforeIn g us above stood k (views p) → IsQuiet (views q)
+    pub quiet_asked : (us : List ℕ) (above : Option Handle) (stood : Rec Handle)
+        → BeforeIn g us above stood k (views p) → IsQuiet (views q)
     quiet_asked us above stood b =
         let none = quiet above b.planted.nodes in
         let reads = quiet_watched p.values.knows p.marks.knows closed above k b.planted.nodes none b.watched in

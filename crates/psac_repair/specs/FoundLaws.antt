@@ -6,7 +6,6 @@ use Rattle.psac_ops.specs.Named.{value_of, same_handle}
 use Rattle.psac_slots.specs.Handles.{Member}
 use Rattle.psac_slots.specs.Claiming.{times}
 use Rattle.psac_values.specs.declared.view.ValueView.{ValueView}
-use Rattle.psac_values.specs.Steps as values
 use Rattle.psac_values.specs.Knowing.{United}
 use Rattle.psac_readers.specs.declared.view.Stage.TheVariants.{In}
 use Rattle.psac_readers.specs.declared.view.LinkView.{LinkView}
@@ -31,7 +30,7 @@ use Rattle.psac_repair.specs.LinkLaws.{left_pass, right_pass}
 use Rattle.psac_repair.specs.Watched.{Watched, Steady}
 use Rattle.psac_repair.specs.WatchLaws.{left_view, right_view}
 use Rattle.psac_repair.specs.Counted.{done}
-use Rattle.psac_repair.specs.Founded.{AllPresent, Coherent, Founded, LeadOut, OnlyWoken, Idle}
+use Rattle.psac_repair.specs.Founded.{AllPresent, Coherent, Founded, OnlyWoken, Idle}
 
 -- nothing was marked, or a node was cleared
 abbrev pub NoneFounded : Type 0

@@ -25,6 +25,7 @@ pub mod Taking
 pub mod Outcomes
 pub mod Changing
 pub mod Going
+pub mod Sparing
 pub mod WalkLaws
 pub mod Indexed
 pub mod Repairing

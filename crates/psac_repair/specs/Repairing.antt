@@ -1,5 +1,5 @@
 -- What the calls of a repair need and leave.
-use Rattle.std.specs.Prelude.{◌≡◌, ℕ, List, ◌∷◌, Option, Some, slice_get}
+use Rattle.std.specs.Prelude.{◌≡◌, ℕ, List, ◌∷◌, length, Option, Some, slice_get}
 use Rattle.std.specs.Borrow.{Bor}
 use Rattle.psac_ops.specs.declared.plain.Handle.{Handle}
 use Rattle.psac_ops.specs.declared.plain.TextId.{TextId}
@@ -15,6 +15,8 @@ use Rattle.psac_model.specs.declared.ends.CapKind.{CapKind}
 use Rattle.psac_model.specs.Expression.{Setting}
 use Rattle.psac_traced.specs.Rec.{Rec, S}
 use Rattle.psac_traced.specs.Bodies.{IsCode}
+use Rattle.psac_record.specs.declared.parts.Reading.{Reading}
+use Rattle.psac_record.specs.Kept as kept
 use Rattle.psac_record.specs.Kept.{Kept, bare}
 use Rattle.psac_record.specs.Shown.{kept_of}
 use Rattle.psac_trace.specs.Asking.{setting_on}
@@ -24,8 +26,10 @@ use Rattle.psac_repair.specs.declared.world.World.{World}
 use Rattle.psac_repair.specs.Ended.{Ended}
 use Rattle.psac_repair.specs.Indexed.{Code}
 use Rattle.psac_repair.specs.Mends.{Needs, Tells, TellsPart}
-use Rattle.psac_repair.specs.Outcomes.{end_of}
+use Rattle.psac_repair.specs.Outcomes.{end_of, OnGood}
 use Rattle.psac_repair.specs.Going.{Views, views, Before, After}
+use Rattle.psac_repair.specs.Sparing.{IsFounded, Sparing, Since}
+use Rattle.psac_repair.specs.Marks.{IsMarked}
 
 -- the world of these parts
 abbrev pub world_of : Bor Crew → Bor Tables → (ground : Ground) → Bor (List TextId) → Bor (List Func) → Bor (List Stmt) → Bor (List Code) → World
@@ -77,3 +81,38 @@ Leaves g k new p q e = (us : List ℕ) (above : Option Handle) → BeforeIn g us
 
 abbrev pub Left : World → Kept → Pass → Pass → Outcome → Type 0
 Left g k p q o = Leaves g k (kept_of o.tree) p q (end_of o)
+
+-- how little a call does that leaves a record, where each marked node of the old one stood over a block that read other
+-- words than are present
+abbrev pub Spares : World → Kept → Pass → Pass → Outcome → Type 0
+Spares g k p q o =
+    (us : List ℕ) (above : Option Handle) → BeforeIn g us above (bare k) k (views p) → IsFounded (views p) k
+    → OnGood (end_of o) (Sparing us k (kept_of o.tree) (views p) (views q))
+
+-- a part before the rest of its body
+abbrev pub SparesPart : World → Kept → Kept → Pass → Pass → Outcome → Type 0
+SparesPart g k rest p q o =
+    (us : List ℕ) (above : Option Handle) → BeforeIn g us above (S (bare k) (bare rest)) k (views p)
+    → IsFounded (views p) k
+    → OnGood (end_of o) (Sparing us k (kept_of o.tree) (views p) (views q))
+
+-- the same of a part whose node is marked, told from before that node was asked
+abbrev pub SparesSince : ℕ → World → Handle → Kept → Kept → Pass → Pass → Outcome → Type 0
+SparesSince looks g n k rest p q o =
+    (before : Views) → Since looks 1 before (views p) → (us : List ℕ) (above : Option Handle)
+    → BeforeIn g us above (S (bare k) (bare rest)) k (views p) → IsFounded (views p) k → IsMarked p.marks.knows n
+    → OnGood (end_of o) (Sparing us k (kept_of o.tree) before (views q))
+
+-- both sides of a par, and a read block, before they are asked
+abbrev pub SparesPair : World → Handle → Kept → Kept → Kept → Pass → Pass → Outcome → Type 0
+SparesPair g n l k = SparesPart g (kept.P n l k)
+
+abbrev pub SparesBlock : World → Reading → Kept → Kept → Pass → Pass → Outcome → Type 0
+SparesBlock g b t = SparesPart g (kept.R b t)
+
+-- and behind that, also once the reads of the block were looked at
+abbrev pub SparesSides : World → Handle → Kept → Kept → Kept → Pass → Pass → Outcome → Type 0
+SparesSides g n l k = SparesSince 0 g n (kept.P n l k)
+
+abbrev pub SparesAgain : World → Reading → Kept → Kept → Pass → Pass → Outcome → Type 0
+SparesAgain g b t = SparesSince (length b.reads) g b.node (kept.R b t)

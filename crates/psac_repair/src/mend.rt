@@ -5,7 +5,8 @@ ghost use Rattle.psac_fork.specs.Whole.{IsOf};
 ghost use Rattle.psac_record.specs.Kept as kept;
 ghost use Rattle.psac_record.specs.Shown.{kept_of};
 ghost use Rattle.psac_repair.specs.Outcomes.{Counts};
-ghost use Rattle.psac_repair.specs.Repairing.{Begins, Left, BeginsPart, LeftPart, world_of};
+ghost use Rattle.psac_repair.specs.Repairing.{Begins, Left, BeginsPart, LeftPart, Spares, SparesPart, SparesPair};
+ghost use Rattle.psac_repair.specs.Repairing.{SparesBlock, SparesSides, world_of};
 
 use crate::divide::fork_sides;
 use crate::outcome::{Outcome, behind_made, behind_wrote, in_block, in_sides, in_step, untried};
@@ -20,6 +21,9 @@ use std::thread::Threads;
 /// Repairs the record of a run: each read block that read other words than are present runs again, but for those that such a block
 /// ran; all else is kept. Memory that runs out and a full table stop it, as they stop a run, and so does a fault of a block that
 /// runs again. After any stop the record is only good for giving everything back.
+///
+/// Where each marked node of the record stands over a block that read other words than are present, it compares the reads
+/// of no blocks but those that run again and those round them, and asks for marks on the way to them alone.
 pub fn repair<Rt: Threads + Sync, G: Gate + Sync>(
     rt: &Rt,
     alloc: Global,
@@ -32,6 +36,7 @@ pub fn repair<Rt: Threads + Sync, G: Gate + Sync>(
     requires begins { Begins world.now (kept_of tree) pass }
     ensures of { IsOf result.1 world.now.tables.now }
     ensures left { Left world.now (kept_of tree) pass result.1 result.0 }
+    ensures spares { Spares world.now (kept_of tree) pass result.1 result.0 }
     ensures counts { Counts (kept_of tree) result.0 }
 {
     mend(rt, alloc, world, gate, tree, pass)
@@ -51,6 +56,7 @@ fn mend<Rt: Threads + Sync, G: Gate + Sync>(
     requires begins { Begins world.now (kept_of tree) pass }
     ensures of { IsOf result.1 world.now.tables.now }
     ensures left { Left world.now (kept_of tree) pass result.1 result.0 }
+    ensures spares { Spares world.now (kept_of tree) pass result.1 result.0 }
     ensures counts { Counts (kept_of tree) result.0 }
 {
     match tree.apart() {
@@ -85,6 +91,7 @@ fn mend_step<Rt: Threads + Sync, G: Gate + Sync>(
     requires begins { Begins world.now (kept.S place.value.node (kept_of inner) (kept_of rest)) pass }
     ensures of { IsOf result.1 world.now.tables.now }
     ensures left { Left world.now (kept.S place.value.node (kept_of inner) (kept_of rest)) pass result.1 result.0 }
+    ensures spares { Spares world.now (kept.S place.value.node (kept_of inner) (kept_of rest)) pass result.1 result.0 }
     ensures counts { Counts (kept.S place.value.node (kept_of inner) (kept_of rest)) result.0 }
 {
     let node = place.node;
@@ -120,6 +127,7 @@ fn mend_part<Rt: Threads + Sync, G: Gate + Sync>(
     requires begins { BeginsPart world.now (kept_of part) (kept_of rest.now) pass }
     ensures of { IsOf result.1 world.now.tables.now }
     ensures left { LeftPart world.now (kept_of part) (kept_of rest.now) pass result.1 result.0 }
+    ensures spares { SparesPart world.now (kept_of part) (kept_of rest.now) pass result.1 result.0 }
     ensures counts { Counts (kept_of part) result.0 }
 {
     match part.apart() {
@@ -149,6 +157,7 @@ fn mend_block<Rt: Threads + Sync, G: Gate + Sync>(
     requires begins { BeginsPart world.now (kept.R place.value.reading (kept_of inner)) (kept_of rest.now) pass }
     ensures of { IsOf result.1 world.now.tables.now }
     ensures left { LeftPart world.now (kept.R place.value.reading (kept_of inner)) (kept_of rest.now) pass result.1 result.0 }
+    ensures spares { SparesBlock world.now place.value.reading (kept_of inner) (kept_of rest.now) pass result.1 result.0 }
     ensures counts { Counts (kept.R place.value.reading (kept_of inner)) result.0 }
 {
     let node = place.reading.node;
@@ -159,8 +168,10 @@ fn mend_block<Rt: Threads + Sync, G: Gate + Sync>(
     }
     let (found, pass) = seen_again(alloc, world.tables, place.reading.reads.as_slice(), pass);
     let Ok(found) = found else {
-        let whole = Part::Block(place, inner).together();
-        return (Outcome::no_memory(whole), pass);
+        return (
+            Outcome::no_memory(Part::Block(place, inner).together()),
+            pass,
+        );
     };
     if let Some(again) = found {
         return redo_block(rt, alloc, world, gate, place, again, inner, rest, pass);
@@ -191,6 +202,7 @@ fn mend_both<Rt: Threads + Sync, G: Gate + Sync>(
     requires begins { BeginsPart world.now (kept.P place.value.node (kept_of left) (kept_of right)) (kept_of rest.now) pass }
     ensures of { IsOf result.1 world.now.tables.now }
     ensures left { LeftPart world.now (kept.P place.value.node (kept_of left) (kept_of right)) (kept_of rest.now) pass result.1 result.0 }
+    ensures spares { SparesPair world.now place.value.node (kept_of left) (kept_of right) (kept_of rest.now) pass result.1 result.0 }
     ensures counts { Counts (kept.P place.value.node (kept_of left) (kept_of right)) result.0 }
 {
     let node = place.node;
@@ -222,6 +234,7 @@ fn mend_in_turn<Rt: Threads + Sync, G: Gate + Sync>(
     requires begins { BeginsPart world.now (kept.P place.value.node (kept_of left) (kept_of right)) (kept_of rest.now) pass }
     ensures of { IsOf result.1 world.now.tables.now }
     ensures left { LeftPart world.now (kept.P place.value.node (kept_of left) (kept_of right)) (kept_of rest.now) pass result.1 result.0 }
+    ensures spares { SparesSides world.now place.value.node (kept_of left) (kept_of right) (kept_of rest.now) pass result.1 result.0 }
     ensures counts { Counts (kept.P place.value.node (kept_of left) (kept_of right)) result.0 }
 {
     let _ = rest;
@@ -256,6 +269,7 @@ fn mend_sides<Rt: Threads + Sync, G: Gate + Sync>(
     requires begins { BeginsPart world.now (kept.P place.value.node (kept_of left) (kept_of right)) (kept_of rest.now) pass }
     ensures of { IsOf result.1 world.now.tables.now }
     ensures left { LeftPart world.now (kept.P place.value.node (kept_of left) (kept_of right)) (kept_of rest.now) pass result.1 result.0 }
+    ensures spares { SparesSides world.now place.value.node (kept_of left) (kept_of right) (kept_of rest.now) pass result.1 result.0 }
     ensures counts { Counts (kept.P place.value.node (kept_of left) (kept_of right)) result.0 }
 {
     let _ = rest;
@@ -290,6 +304,8 @@ fn mend_at_once<Rt: Threads + Sync, G: Gate + Sync>(
     ensures of { IsOf result.0.1 world.now.tables.now × IsOf result.1.1 world.now.tables.now }
     ensures left { Left world.now (kept_of left) mine result.0.1 result.0.0 }
     ensures right { Left world.now (kept_of right) theirs result.1.1 result.1.0 }
+    ensures spares { Spares world.now (kept_of left) mine result.0.1 result.0.0 }
+    ensures spares_right { Spares world.now (kept_of right) theirs result.1.1 result.1.0 }
     ensures counts { Counts (kept_of left) result.0.0 × Counts (kept_of right) result.1.0 }
 {
     let crew = world.crew;
@@ -305,7 +321,7 @@ fn mend_at_once<Rt: Threads + Sync, G: Gate + Sync>(
         gate,
         move || -> (Outcome, Pass)
             requires { IsSync Rt.row × IsSync G.row × IsOf mine tables.now × Begins (world_of crew tables floor texts funcs main blocks) (kept_of left) mine }
-            ensures { IsOf result.1 tables.entry.now × Left (world_of crew.entry tables.entry floor texts.entry funcs.entry main.entry blocks.entry) (kept_of left) mine result.1 result.0 × Counts (kept_of left) result.0 }
+            ensures { IsOf result.1 tables.entry.now × Left (world_of crew.entry tables.entry floor texts.entry funcs.entry main.entry blocks.entry) (kept_of left) mine result.1 result.0 × Spares (world_of crew.entry tables.entry floor texts.entry funcs.entry main.entry blocks.entry) (kept_of left) mine result.1 result.0 × Counts (kept_of left) result.0 }
         {
             let world = World {
                 crew,
@@ -320,7 +336,7 @@ fn mend_at_once<Rt: Threads + Sync, G: Gate + Sync>(
         },
         move || -> (Outcome, Pass)
             requires { IsSync Rt.row × IsSync G.row × IsOf theirs tables.now × Begins (world_of crew tables floor texts funcs main blocks) (kept_of right) theirs }
-            ensures { IsOf result.1 tables.entry.now × Left (world_of crew.entry tables.entry floor texts.entry funcs.entry main.entry blocks.entry) (kept_of right) theirs result.1 result.0 × Counts (kept_of right) result.0 }
+            ensures { IsOf result.1 tables.entry.now × Left (world_of crew.entry tables.entry floor texts.entry funcs.entry main.entry blocks.entry) (kept_of right) theirs result.1 result.0 × Spares (world_of crew.entry tables.entry floor texts.entry funcs.entry main.entry blocks.entry) (kept_of right) theirs result.1 result.0 × Counts (kept_of right) result.0 }
         {
             let world = World {
                 crew,

@@ -1,5 +1,5 @@
 //! What a block's reads see now.
-ghost use Rattle.std.specs.Prelude.{◌≡◌, ◌++◌, IfOk, OnOk, IfNone, IfSome, List};
+ghost use Rattle.std.specs.Prelude.{◌≡◌, ◌+◌, ◌≤◌, ◌++◌, IfOk, OnOk, IfNone, IfSome, List, length};
 ghost use Rattle.psac_ops.specs.Value.{Value};
 ghost use Rattle.psac_ops.specs.Table.{same_value};
 ghost use Rattle.psac_ops.specs.declared.plain.Handle.{Handle};
@@ -26,6 +26,7 @@ fn value_now(values: &Values, pass: &mut ValuePass, seen: &Seen) -> Plain
     requires known { (x : Value Handle) × Sees pass.old.knows seen.now.from x }
     ensures table { pass.new.table ≡ pass.old.table }
     ensures looked { Looked pass.old.knows pass.new.knows }
+    ensures once { pass.new.knows.looks ≤ pass.old.knows.looks + 1 }
     ensures value { (x : Value Handle) → Sees pass.old.knows seen.now.from x → plain_value result ≡ x }
 {
     let words = values.read(pass, seen.from);
@@ -47,6 +48,7 @@ fn seen_now(
     requires known { Known pass.old.knows reads.now }
     ensures table { pass.new.table ≡ pass.old.table }
     ensures looked { Looked pass.old.knows pass.new.knows }
+    ensures each { pass.new.knows.looks ≤ pass.old.knows.looks + length reads.now }
     ensures seen { OnOk result ((more : List Saw) × (all.new ≡ all.old ++ more) × SeenNow pass.old.knows reads.now more) }
 {
     let [first, rest @ ..] = reads else {
@@ -72,6 +74,7 @@ fn reads_now(
     requires known { Known pass.old.knows reads.now }
     ensures table { pass.new.table ≡ pass.old.table }
     ensures looked { Looked pass.old.knows pass.new.knows }
+    ensures each { pass.new.knows.looks ≤ pass.old.knows.looks + length reads.now }
     ensures seen { IfOk result (λ again. SeenNow pass.old.knows reads.now again) }
 {
     let mut all = Items::new(alloc);
@@ -110,6 +113,7 @@ pub fn changed_reads(
     requires known { Known pass.old.knows reads.now }
     ensures table { pass.new.table ≡ pass.old.table }
     ensures looked { Looked pass.old.knows pass.new.knows }
+    ensures each { pass.new.knows.looks ≤ pass.old.knows.looks + length reads.now }
     ensures same { IfOk result (λ found. IfNone found (EachOf (Present pass.old.knows) (reads_of reads.now))) }
     ensures changed { IfOk result (λ found. IfSome found (λ again. Changed pass.old.knows reads.now again)) }
 {

@@ -13,7 +13,7 @@ ghost use Rattle.psac_repair.specs.Linked.{Linked, LinksOnce};
 ghost use Rattle.psac_repair.specs.Rebuilt.{Olds, TakenOff, Replaces};
 ghost use Rattle.psac_repair.specs.Changing.{Changed};
 ghost use Rattle.psac_repair.specs.Outcomes.{Counts};
-ghost use Rattle.psac_repair.specs.Repairing.{BeginsPart, LeftPart};
+ghost use Rattle.psac_repair.specs.Repairing.{BeginsPart, LeftPart, SparesAgain};
 
 use crate::entry::entered;
 use crate::olds::olds_of;
@@ -110,6 +110,7 @@ pub fn redo_block<Rt: Threads + Sync, G: Gate + Sync>(
     requires changed { Changed pass.values.knows place.value.reading.reads again }
     ensures of { IsOf result.1 world.now.tables.now }
     ensures left { LeftPart world.now (kept.R place.value.reading (kept_of inner)) (kept_of rest.now) pass result.1 result.0 }
+    ensures spares { SparesAgain world.now place.value.reading (kept_of inner) (kept_of rest.now) pass result.1 result.0 }
     ensures counts { Counts (kept.R place.value.reading (kept_of inner)) result.0 }
 {
     let _ = rest;

@@ -1,5 +1,5 @@
 //! A node on the way down, and on the way up.
-ghost use Rattle.std.specs.Prelude.{◌≡◌, false, ◌∷◌, [], Option, IfOk, IfNone, IfSome};
+ghost use Rattle.std.specs.Prelude.{◌≡◌, ◌+◌, ◌≤◌, true, false, ◌∷◌, [], Option, IfOk, IfNone, IfSome, length};
 ghost use Rattle.psac_ops.specs.declared.plain.Handle.{Handle};
 ghost use Rattle.psac_fork.specs.Whole.{IsOf};
 ghost use Rattle.psac_marks.specs.Passes.{Owns, Bare};
@@ -7,7 +7,7 @@ ghost use Rattle.psac_marks.specs.Steps.{IsClosed};
 ghost use Rattle.psac_record.specs.Kept.{Kept, reads_of};
 ghost use Rattle.psac_record.specs.Shown.{kept_of};
 ghost use Rattle.psac_traced.specs.Holds.{EachOf};
-ghost use Rattle.psac_repair.specs.Marks.{Nodes, Present};
+ghost use Rattle.psac_repair.specs.Marks.{Nodes, Present, IsMarked};
 ghost use Rattle.psac_repair.specs.Planted.{slots, tops, NoneMarked};
 ghost use Rattle.psac_repair.specs.Going.{views, Asks, Clears, Looks};
 ghost use Rattle.psac_repair.specs.Outcomes.{is_body};
@@ -27,6 +27,8 @@ pub fn asked(tables: &Tables, node: Node, mut pass: Pass) -> (bool, Pass)
     requires own { Owns pass.marks.knows node }
     ensures of { IsOf result.1 tables.now }
     ensures asks { Asks (views pass) (views result.1) }
+    ensures once { result.1.marks.knows.asks ≤ pass.marks.knows.asks + 1 }
+    ensures marked { result.0 ≡ true → IsMarked pass.marks.knows node }
     ensures closed { IsClosed pass.marks.knows }
     ensures quiet { (above : Option Handle) (k : Kept) → tops k ≡ node.slot ∷ [] → Nodes pass.marks.knows above k → result.0 ≡ false → NoneMarked pass.marks.knows (slots k) }
 {
@@ -57,6 +59,7 @@ pub fn seen_again(
     requires known { Known pass.values.knows reads.now }
     ensures of { IsOf result.1 tables.now }
     ensures looks { Looks (views pass) (views result.1) }
+    ensures each { result.1.values.knows.looks ≤ pass.values.knows.looks + length reads.now }
     ensures same { IfOk result.0 (λ found. IfNone found (EachOf (Present pass.values.knows) (reads_of reads.now))) }
     ensures changed { IfOk result.0 (λ found. IfSome found (λ again. Changed pass.values.knows reads.now again)) }
 {
