@@ -24,9 +24,11 @@ use Rattle.psac_values.specs.Knowing.{claimed_as}
 use Rattle.psac_values.specs.Steps.{made_handle}
 use Rattle.psac_model.specs.declared.ends.Caps.{Caps}
 use Rattle.psac_model.specs.declared.ends.CapKind.TheVariants as cap
+use Rattle.psac_model.specs.declared.ends.Work.{Work}
 use Rattle.psac_model.specs.Fresh.{World}
 use Rattle.psac_record.specs.Kept.{Kept, bare, made_of}
 use Rattle.psac_repair.specs.Ended.{Good}
+use Rattle.psac_repair.specs.Counted.{Spent, done}
 use Rattle.psac_repair.specs.Going.{views}
 use Rattle.psac_repair.specs.Taking.{taken}
 use Rattle.psac_reclaim.specs.Gave.{out_of}
@@ -36,7 +38,7 @@ use Rattle.psac_stage.specs.Resting.{HasAll}
 use Rattle.psac_stage.specs.Settling.{Settles}
 use Rattle.psac_stage.proofs.Reclaiming.{all_same, all_nodes}
 use Rattle.psac_engine.specs.Mending.{Staged, Told}
-use Rattle.psac_engine.specs.Repaired.{Stands, Aged, Repaired}
+use Rattle.psac_engine.specs.Repaired.{Stands, Aged, Repaired, IsSpent}
 use Rattle.psac_engine.proofs.Dropping.{done_mended, owes}
 
 -- what is counted as the handle is it
@@ -71,7 +73,7 @@ in_same xs ys sum m i =
     subst (λ x. Member x xs) (same_is m b.0 b.2) b.1
 
 -- a claimed slot, by the handle that it has outside
-one_made : (m n : ℕ) (x y : Handle) → m ≡ n → made_handle m x ≡ made_handle n y → x ≡ y
+pub one_made : (m n : ℕ) (x y : Handle) → m ≡ n → made_handle m x ≡ made_handle n y → x ≡ y
 one_made m n x y same e =
     let slots = ap (λ (h : Handle). h.slot) e in
     let slot : x.slot ≡ y.slot = omega (arith, slots, same) in
@@ -121,7 +123,7 @@ module _ (c q : ClaimView) (whole : Accounted c) (n : ℕ) (made : MoreClaims c 
       ]
 
   -- each slot is still in the generation that it was in
-  stays : (h : Handle) → Stands c h → Stands z h
+  pub stays : (h : Handle) → Stands c h → Stands z h
   stays h i =
       let a = member_times h (c.list ++ c.held) (both h i) in
       let b = sum_by-append (λ (x : Handle). cond (x.slot == h.slot) 1 0) c.list c.held in
@@ -200,6 +202,22 @@ module _ (w : World) (g h : Grid) (caps : Caps) (age : ℕ) (t : Tables) (k : Ke
         mods = subst (λ hs. Aged (made_handle p.values.knows.fixed) hs p.values.knows.claims v.values.knows.claims) (sym (all_same made_of (taken k new)))
             (subst (λ n. Aged (made_handle n) (in_all made_of (taken k new)) p.values.knows.claims v.values.knows.claims) fixed_now mods_aged);
       }
+
+  -- nobody looks or asks where what is gone goes back
+  looks_then : v.values.knows.looks ≡ q.values.knows.looks
+  looks_then = b.values.looks ∙ ap (λ (m : ValueView). m.looks) settles.values
+
+  asks_then : v.marks.knows.asks ≡ q.marks.knows.asks
+  asks_then = b.marks.asks ∙ ap (λ (m : MarksView). m.asks) settles.marks
+
+  pub spent_back : (work : Work) → work.visited ≡ (done k new).visited
+      → Spent p.values.knows q.values.knows p.marks.knows q.marks.knows k new → IsSpent work k new (views p) (views v)
+  spent_back work visited s =
+      let l = s.looks in
+      let a = s.asks in
+      let lt = looks_then in
+      let at = asks_then in
+      record { looks = omega (arith, l, lt); asks = omega (arith, a, at, visited) }
 
 -- nothing to do: each generation is what it was
 pub aged_none : (name : Handle → Handle) (c : ClaimView) → Accounted c → Aged name [] c c

@@ -1,5 +1,5 @@
 -- What a repair came to, by its result, and what is answered where it is done.
-use Rattle.std.proofs.Common.{◌≡◌, ℕ, ◌+◌, ◌<◌, length, Some, Result, Ok, Err, IfOk, sym, ◌∙◌, subst}
+use Rattle.std.proofs.Common.{◌≡◌, ℕ, ◌+◌, ◌<◌, length, Some, Result, Ok, Err, IfOk, ap, sym, ◌∙◌, subst}
 use Rattle.std.proofs.lemmas.Grind.{merely}
 use Rattle.psac_ops.specs.declared.plain.Handle.{Handle}
 use Rattle.psac_ops.specs.Named.{same_handle}
@@ -7,8 +7,10 @@ use Rattle.psac_fork.specs.declared.tables.Pass.{Pass}
 use Rattle.psac_fork.specs.declared.tables.Tables.{Tables}
 use Rattle.psac_fork.specs.Whole.{IsOf}
 use Rattle.psac_slots.specs.Handles.{Member}
+use Rattle.psac_values.specs.declared.view.ValueView.{ValueView}
 use Rattle.psac_inputs.specs.Grid.{Grid}
 use Rattle.psac_model.specs.declared.ends.Caps.{Caps}
+use Rattle.psac_model.specs.declared.ends.CapKind.TheVariants as cap
 use Rattle.psac_model.specs.declared.ends.End.TheVariants.{Done}
 use Rattle.psac_model.specs.declared.ends.Work.{Work}
 use Rattle.psac_model.specs.Tree.{add_size}
@@ -22,7 +24,8 @@ use Rattle.psac_repair.specs.declared.outcome.Outcome.{Outcome}
 use Rattle.psac_repair.specs.declared.outcome.Stop.{Stop}
 use Rattle.psac_repair.specs.declared.tally.Tally.{Tally}
 use Rattle.psac_repair.specs.Ended.{Good}
-use Rattle.psac_repair.specs.Outcomes.{stopped, ended_by, end_of}
+use Rattle.psac_repair.specs.Counted.{Spent}
+use Rattle.psac_repair.specs.Outcomes.{stopped, ended_by, end_of, OnGood}
 use Rattle.psac_repair.specs.Tallied.{tally_of, capped_work}
 use Rattle.psac_repair.specs.Taking.{taken}
 use Rattle.psac_repair.specs.Going.{views}
@@ -34,10 +37,11 @@ use Rattle.psac_stage.proofs.Clears.{rested, cleared, has_all}
 use Rattle.psac_stage.proofs.Settles.{settled_all, settled_rested}
 use Rattle.psac_stage.proofs.Storing.{inside}
 use Rattle.psac_engine.specs.Commit.{Answers}
-use Rattle.psac_engine.specs.Repaired.{Repaired}
+use Rattle.psac_engine.specs.Repaired.{Repaired, IsSpent}
 use Rattle.psac_engine.specs.Running.{Shows}
 use Rattle.psac_engine.specs.Mending.{Staged, Came, Told, Finished}
-use Rattle.psac_engine.proofs.Aging.{repaired_back}
+use Rattle.psac_engine.specs.Held.{Ages}
+use Rattle.psac_engine.proofs.Aging.{repaired_back, spent_back}
 use Rattle.psac_engine.proofs.Fits.{in_caps}
 use Rattle.psac_engine.proofs.Dropping.{done_told, done_mended, owes, names}
 use Rattle.psac_engine.proofs.Recordings.{all_back, recorded_back, outputs_back}
@@ -45,6 +49,7 @@ use Rattle.psac_engine.proofs.Stopped.{stopped_for}
 use Rattle.psac_engine.proofs.Tellings.{all_told}
 use Rattle.psac_engine.proofs.Repairs.{made_new, outcome_now, shows_now, work_now}
 use Rattle.psac_engine.proofs.Works.{whole_work}
+use Rattle.psac_engine.proofs.Rising.{rises_then, run_rises, run_holds, none_rises, none_renews}
 
 module _ (w : World) (h : Grid) (t : Tables) (k : Kept) (p q : Pass) (o : Outcome) (c : Came w h t k p q o) where
   -- there is a record
@@ -96,13 +101,17 @@ module _ (w : World) (g h : Grid) (caps : Caps) (age : ℕ) (t : Tables) (k : Ke
         good = done_outcome;
       }
 
-  -- the numbers are the model's
+  -- the numbers stand as they are
+  pub done_work : (work : Work) → work ≡ capped_work (work_of d) → work ≡ work_of d
+  done_work work is = is ∙ whole_work (bare k) (bare new) caps s.fit done_fits
+
+  -- and are the model's
   pub done_answers : (work : Work) → work ≡ capped_work (work_of d) → Answers caps (Some (fresh w g)) (outcome w caps h) (Ok work)
   done_answers work is =
       let is_new = made_new w g h caps age t k p s q.values.knows (bare new) (done_told w g h caps age t k p s q new a).3 in
       let model = work_now w g h caps age t k p s (bare new) is_new (done_mended w g h caps age t k p s q new a) done_fits in
       subst (λ o. Answers caps (Some (fresh w g)) o (Ok work)) (sym done_outcome)
-      (is ∙ whole_work (bare k) (bare new) caps s.fit done_fits ∙ sym model)
+      (done_work work is ∙ sym model)
 
 module _ (w : World) (g h : Grid) (caps : Caps) (age : ℕ) (t : Tables) (k : Kept) (p : Pass) (s : Staged w g h caps age t k p) (q : Pass)
     (o : Outcome) (c : Came w h t k p q o) (z : Pass) (settles : Settles q z) where
@@ -152,9 +161,40 @@ module _ (w : World) (g h : Grid) (caps : Caps) (age : ℕ) (t : Tables) (k : Ke
           ),
         )
 
-    pub came_repaired : (v : Pass) → GaveBack new (dropped_of o.dropped) z v → Repaired w h k new (views p) (views v)
-    came_repaired v back =
-        repaired_back w g h caps age t k p s q new good z settles came_all young fresh v (subst (λ ks. GaveBack new ks z v) counts_are.1 back)
+    abbrev Spends : Type 0
+    Spends = Spent p.values.knows q.values.knows p.marks.knows q.marks.knows k new
+
+    pub came_repaired : (v : Pass) → GaveBack new (dropped_of o.dropped) z v → (work : Work)
+        → ((x : Mending Handle) → numbers ≡ tally_of x → work ≡ capped_work (work_of x))
+        → Repaired w h k new (views p) (views v) × IsSpent work k new (views p) (views v)
+    came_repaired v back work worked =
+        let b = subst (λ ks. GaveBack new ks z v) counts_are.1 back in
+        let is_work = done_work w g h caps age t k p s q z new good settles came_all work
+        (worked (mended same_handle (bare k) (bare new)) counts_are.0) in (
+          repaired_back w g h caps age t k p s q new good z settles came_all young fresh v b,
+          spent_back w g h caps age t k p s q new good z settles came_all young fresh v b work
+              (ap (λ (x : Work). x.visited) is_work)
+              (subst (λ x. OnGood (ended_by x (rec_of o.tree)) Spends) is c.spent),
+        )
+
+  -- no generation fell, and those of what was out rose
+  pub came_ages : {X E : Type 0} (why : E) (v : Pass) → ValuesNone z.values.knows v.values.knows
+      → (let told : Result (Work × X) E = Err why in Ages p.values.knows.claims v.values.knows.claims told)
+  came_ages why v none =
+      let l = c.told.lasting in
+      let rest = (settled_rested q z settles).mods in
+      let a = p.values.knows.claims in
+      let b = q.values.knows.claims in
+      let d = z.values.knows.claims in
+      let is = ap (λ (x : ValueView). x.claims) settles.values in
+      record {
+        rises = rises_then a d v.values.knows.claims
+            (run_rises a b s.rested.mods.whole (l.drew cap.Mods) (l.claims cap.Mods) settles.mods d is settles.whole_mods)
+            (none_rises z.values.knows v.values.knows rest none);
+        renews = λ anew x i.
+            none_renews z.values.knows v.values.knows rest none x
+            (run_holds a b s.rested.mods.whole (l.drew cap.Mods) (l.claims cap.Mods) settles.mods d is settles.whole_mods x i);
+      }
 
   -- where it stopped, and all that was made went back
   module _ (why : Stop) (is : o.told ≡ Err why) (v : Pass) (of : IsOf v t) (values : ValuesNone z.values.knows v.values.knows)

@@ -32,6 +32,7 @@ use Rattle.psac_stage.proofs.Sets.{handle_set}
 use Rattle.psac_stage.proofs.Sole.{traced_out}
 use Rattle.psac_stage.specs.Staging.{changed, Changes}
 use Rattle.psac_stage.proofs.Placed.{opened_kept, room_kept, cols_kept}
+use Rattle.psac_stage.proofs.Founding.{coherent_now, founded_now}
 use Rattle.psac_stage.proofs.Inputs.{inputs_in}
 use Rattle.psac_stage.proofs.Mendable.{mendable}
 use Rattle.psac_stage.proofs.Settles.{all_older}
@@ -127,6 +128,8 @@ module _ (p : Program) (texts : List TextId) (some : IsSome (main_of p)) (rule :
       let w = world_with p texts in
       let over : Roomy (views x) = (rest.mods.over, rest.links.over, rest.nodes.over) in
       let same : Changes (changed g (length w.main.dests) b) (views x) (views y) = subst (λ n. Changes (changed g n b) (views x) (views y)) many changes in
+      let put_in : HasAll (put_all b g) (length w.main.dests) caps age y =
+      subst (λ z. HasAll z (length w.main.dests) caps age y) put all in
       let opened : h.opened ≡ g.opened = ap (λ (z : Grid). z.opened) put ∙ opened_kept b.edits g in
       let room : h.room ≡ g.room = ap (λ (z : Grid). z.room) put ∙ room_kept b.edits g in
       let cols : h.cols ≡ g.cols = ap (λ (z : Grid). z.cols) put ∙ cols_kept b.edits g in
@@ -141,6 +144,10 @@ module _ (p : Program) (texts : List TextId) (some : IsSome (main_of p)) (rule :
         changes = changes;
         mendable = mendable w g h ok now world_checked caps age k _ (views x) (views y) had all rest.mods.whole rest.links.whole over rec same opened room cols
             (inputs_in w g ok world_checked x.values.knows had.fixed had.grid b sound goes);
+        coherent = coherent_now w g b ok sound goes world_checked caps age k (views x) (views y) had put_in
+            rest.mods.whole rec same;
+        founded = founded_now w g b ok sound goes world_checked caps age k (views x) (views y) had put_in
+            rest.mods.whole rec same;
         ok = ok;
         now = now;
         fit = fit;

@@ -27,3 +27,11 @@ pub mod Rests
 pub mod Modes
 pub mod Keeping
 pub mod Aging
+pub mod Written
+pub mod Redoing
+pub mod Rising
+pub mod Helds
+pub mod Handles
+pub mod Handling
+pub mod Looks
+pub mod Named

@@ -14,14 +14,19 @@ use Rattle.psac_model.specs.Fresh.{World, main_of}
 use Rattle.psac_plain.specs.Opened.{setting_over}
 use Rattle.psac_traced.specs.Bodies.{IsCode}
 use Rattle.psac_record.specs.Kept.{Kept, bare}
+use Rattle.psac_record.specs.Shown.{kept_of}
 use Rattle.psac_trace.specs.Asking.{setting_on}
 use Rattle.psac_trace.specs.declared.ground.Ground.{Ground}
 use Rattle.psac_repair.specs.declared.world.World.{World as Around}
-use Rattle.psac_repair.specs.Ended.{Ended}
+use Rattle.psac_repair.specs.Ended.{Ended, Good, Fault, Other}
 use Rattle.psac_repair.specs.Going.{Views, views, Before, After}
 use Rattle.psac_repair.specs.Indexed.{Code}
+use Rattle.psac_repair.specs.Counted.{Spent}
+use Rattle.psac_repair.specs.Founded.{Coherent, Founded}
 use Rattle.psac_repair.specs.Mends.{Needs, Tells}
-use Rattle.psac_repair.specs.Repairing.{setting_of, BeforeIn, Leaves}
+use Rattle.psac_repair.specs.Outcomes.{end_of, OnGood}
+use Rattle.psac_repair.specs.Repairing.{setting_of, BeforeIn, Leaves, Spares}
+use Rattle.psac_repair.specs.declared.outcome.Outcome.{Outcome}
 use Rattle.psac_stage.specs.Recorded.{Mendable, setting_at}
 use Rattle.psac_engine.specs.Mending.{Told}
 use Rattle.psac_engine.specs.Sound.{world_with}
@@ -34,10 +39,19 @@ setting_is : (g : Ground) (h : Grid) (w : World) (texts : List TextId) (outs : L
 setting_is g h w texts outs e same is = e texts ∙ ap (λ ts. setting_over h ts (length outs)) same ∙ ap
     (λ ds. setting_over h w.texts (length ds)) is
 
+-- where there is a record
+on_good : {S T : Type 0} → (S → T) → (e : Ended) → OnGood e S → OnGood e T
+on_good f (Good r) s = f s
+on_good f (Fault why line) s = tt
+on_good f (Other why) s = tt
+
 module _ (w : World) (h : Grid) (g : Around) (setting : setting_of g ≡ setting_at w h) (funcs : g.funcs.now ≡ w.program.funcs)
     (main : g.main.now ≡ w.main.body) (k : Kept) where
   abbrev Begun : Setting Handle → List Func → List Stmt → Views → Type 0
   Begun s fs body p = Before (Needs s fs (IsCode fs body)) fs [] None (bare k) k p
+
+  abbrev pub Spends : Pass → Pass → Outcome → Type 0
+  Spends p q o = Spent p.values.knows q.values.knows p.marks.knows q.marks.knows k (kept_of o.tree)
 
   begins_around : (p : Views) → Mendable w h k p → BeforeIn g [] None (bare k) k p
   begins_around p b =
@@ -55,6 +69,10 @@ module _ (w : World) (h : Grid) (g : Around) (setting : setting_of g ≡ setting
       subst (λ body. Went (setting_at w h) w.program.funcs body new (views p) (views q) e) main
       (subst (λ fs. Went (setting_at w h) fs g.main.now new (views p) (views q) e) funcs
       (subst (λ s. Went s g.funcs.now g.main.now new (views p) (views q) e) setting a))
+
+  spent_around : (p q : Pass) (o : Outcome) → Mendable w h k (views p) → Coherent p.values.knows k
+      → Founded p.values.knows p.marks.knows k → Spares g k p q o → OnGood (end_of o) (Spends p q o)
+  spent_around p q o b co fo l = on_good (λ s. s.spent) (end_of o) (l [] None (begins_around (views p) b) (co, fo))
 
 -- what the repair runs over
 abbrev pub around : Bor Crew → Bor Tables → Ground → Bor (List TextId) → Bor (List Func) → Bor (List Stmt) → Bor (List Code) → Around
@@ -84,3 +102,8 @@ module _ (o q : Program) (texts : List TextId) (h : Grid) (f : Func) (same : q �
   pub told_here : (new : Kept) (p q : Pass) (e : Ended) → Mendable (world_with o texts) h k (views p) → Leaves g k new p q e
       → Told (world_with o texts) h k new (views p) (views q) e
   told_here = told_around (world_with o texts) h g setting_here funcs_here main_here k
+
+  pub spent_here : (p x : Pass) (out : Outcome) → Mendable (world_with o texts) h k (views p)
+      → Coherent p.values.knows k → Founded p.values.knows p.marks.knows k → Spares g k p x out
+      → OnGood (end_of out) (Spent p.values.knows x.values.knows p.marks.knows x.marks.knows k (kept_of out.tree))
+  spent_here = spent_around (world_with o texts) h g setting_here funcs_here main_here k

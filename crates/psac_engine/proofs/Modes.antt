@@ -1,5 +1,6 @@
 -- Which commits say that they repaired, and what is told of the record then.
-use Rattle.std.proofs.Common.{◌≡◌, ◌⊎◌, ℕ, List, Option, Some, None, Result, Ok, Err, IfOk, refl, ap, sym, ◌∙◌, subst, inl, inr}
+use Rattle.std.proofs.Common.{◌≡◌, ◌⊎◌, ℕ, ◌+◌, ◌*◌, ◌≤◌, List, Option, Some, None, Result, Ok, Err, IfOk, refl}
+use Rattle.std.proofs.Common.{ap, sym, ◌∙◌, subst, inl, inr}
 use Rattle.std.specs.Prelude.{option_map, is_some, true}
 use Rattle.psac_marks.specs.declared.view.MarksView.{MarksView}
 use Rattle.psac_values.specs.Steps.{made_handle}
@@ -15,13 +16,14 @@ use Rattle.psac_model.specs.Fresh.{World, Outcome, Full, Fault, Good, outcome}
 use Rattle.psac_record.specs.declared.record.Record.{Record}
 use Rattle.psac_record.specs.Kept.{Kept, nodes_in, made_of, all_of}
 use Rattle.psac_record.specs.Shown.{kept_of}
+use Rattle.psac_repair.specs.Counted.{looks_for}
 use Rattle.psac_repair.specs.Going.{Views}
 use Rattle.psac_repair.specs.Taking.{taken}
 use Rattle.psac_stage.specs.Staging.{Changes}
 use Rattle.psac_engine.specs.declared.answer.Answer.{Answer}
 use Rattle.psac_engine.specs.Commit.{Answers}
 use Rattle.psac_engine.specs.Running.{HasRun}
-use Rattle.psac_engine.specs.Repaired.{Aged, Repaired, RepairsTo}
+use Rattle.psac_engine.specs.Repaired.{Aged, Repaired, IsSpent, RepairsTo}
 
 -- where no run is kept the program runs anew
 pub none_anew : (caps : Caps) (o : Outcome) (work : Work) → Answers caps None o (Ok work) → work.mode ≡ mode.Anew
@@ -50,7 +52,7 @@ module _ (w : World) (g : Grid) (old : Kept) (p q : Views) where
   anew_repairs (Err e) a = tt
 
   pub repairs_ok : {E : Type 0} (told : Result (Work × Record) E) (kept : Work × Record) → told ≡ Ok kept → RepairsTo w g old p q told
-      → kept.0.mode ≡ mode.Repair → Repaired w g old (kept_of kept.1) p q
+      → kept.0.mode ≡ mode.Repair → Repaired w g old (kept_of kept.1) p q × IsSpent kept.0 old (kept_of kept.1) p q
   repairs_ok told kept is r = subst (RepairsTo w g old p q) is r
 
 -- the same of the tables before a batch was put in
@@ -65,8 +67,17 @@ module _ (w : World) (g : Grid) (old : Kept) (x p q : Views) (ss : List ℕ) (c 
             (subst (λ v. Aged (made_handle p.values.fixed) (all_of made_of (taken old new)) v q.values.claims) c.same.claims r.mods);
       }
 
+  spent_before : (work : Work) (new : Kept) → IsSpent work old new p q → IsSpent work old new x q
+  spent_before work new s =
+      let same : p.marks.asks ≡ x.marks.asks = ap (λ (m : MarksView). m.asks) c.becomes in
+      record {
+        looks = subst (λ n. q.values.looks ≤ n + looks_for old new) c.same.looks s.looks;
+        asks = subst (λ n. q.marks.asks ≤ n + (1 + 4 * work.visited)) same s.asks;
+      }
+
   pub repairs_before : (told : Result (Work × Record) Answer) → RepairsTo w g old p q told → RepairsTo w g old x q told
-  repairs_before (Ok kept) r = λ is. repaired_before (kept_of kept.1) (r is)
+  repairs_before (Ok kept) r = λ is.
+      let s = r is in (repaired_before (kept_of kept.1) s.0, spent_before kept.0 (kept_of kept.1) s.1)
   repairs_before (Err e) r = tt
 
 -- a record is kept or not

@@ -37,7 +37,7 @@ use Rattle.psac_stage.proofs.Settles.{all_older}
 use Rattle.psac_engine.specs.declared.answer.Answer.{Answer}
 use Rattle.psac_engine.specs.Commit.{Answers, work_after, no_work}
 use Rattle.psac_engine.specs.Mending.{Keeps, HasRunFrom}
-use Rattle.psac_engine.specs.Repaired.{Aged, Repaired, RepairsTo}
+use Rattle.psac_engine.specs.Repaired.{IsSpent, Aged, Repaired, RepairsTo}
 use Rattle.psac_engine.proofs.Aging.{aged_none}
 use Rattle.psac_engine.proofs.Outcomes.{good_answers}
 
@@ -164,5 +164,12 @@ module _ (w : World) (g : Grid) (caps : Caps) (age : ℕ) (t : Tables) (kept : O
             (aged_none (made_handle p.values.knows.fixed) p.values.knows.claims k.rested.mods.whole);
       }
 
+  rest_spent : (work : Work) → IsSpent work (kept_of r) (kept_of r) (views p) (views p)
+  rest_spent work = record { looks = omega arith; asks = omega arith }
+
   pub rest_repairs : (work : Work) → ForSome kept (λ (x : Record). RepairsTo {E = Answer} w g (kept_of x) (views p) (views p) (Ok (work, r)))
-  rest_repairs work x at = λ m. subst (λ (y : Record). Repaired w g (kept_of y) (kept_of r) (views p) (views p)) (some_is (sym is ∙ at)) rest_repaired
+  rest_repairs work x at = λ m. subst Told (some_is (sym is ∙ at)) (rest_repaired, rest_spent work)
+    where
+      Told : Record → Type 0
+      Told y = Repaired w g (kept_of y) (kept_of r) (views p) (views p)
+          × IsSpent work (kept_of y) (kept_of r) (views p) (views p)

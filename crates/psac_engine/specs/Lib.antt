@@ -9,3 +9,5 @@ pub mod Engine
 pub mod Mending
 pub mod Repaired
 pub mod Repairing
+pub mod Looking
+pub mod Held

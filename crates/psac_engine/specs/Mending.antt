@@ -23,8 +23,10 @@ use Rattle.psac_repair.specs.declared.outcome.Stop.TheVariants as stop
 use Rattle.psac_repair.specs.declared.outcome.Outcome.{Outcome}
 use Rattle.psac_repair.specs.Ended.{Ended}
 use Rattle.psac_repair.specs.Mends.{Tells}
-use Rattle.psac_repair.specs.Outcomes.{end_of, Counts}
+use Rattle.psac_repair.specs.Outcomes.{end_of, Counts, OnGood}
 use Rattle.psac_repair.specs.Going.{Views, views, After}
+use Rattle.psac_repair.specs.Counted.{Spent}
+use Rattle.psac_repair.specs.Founded.{Coherent, Founded}
 use Rattle.psac_stage.specs.Places.{fixed_slots}
 use Rattle.psac_stage.specs.Recorded.{Recorded, Mendable, setting_at}
 use Rattle.psac_stage.specs.Resting.{AllOf, HasAll, IsRested, IsCleared, MayRun}
@@ -48,6 +50,9 @@ pub record Staged (w : World) (g h : Grid) (caps : Caps) (age : ℕ) (t : Tables
   pub slots : List ℕ
   pub changes : Changes slots before (views p)
   pub mendable : Mendable w h k (views p)
+  -- each marked node stands over a block that read other words than are present
+  pub coherent : Coherent p.values.knows k
+  pub founded : Founded p.values.knows p.marks.knows k
   pub ok : IsGrid g
   pub now : IsGrid h
   pub fit : IsCaps caps
@@ -68,6 +73,7 @@ pub record Came (w : World) (h : Grid) (t : Tables) (k : Kept) (p q : Pass) (o :
   pub of : IsOf q t
   pub told : Told w h k (kept_of o.tree) (views p) (views q) (end_of o)
   pub counts : Counts k o
+  pub spent : OnGood (end_of o) (Spent p.values.knows q.values.knows p.marks.knows q.marks.knows k (kept_of o.tree))
 
 -- what a commit leaves, which found the run on the grid g kept, or none: the work and the record that are kept, or the answer
 abbrev pub HasRunFrom : World → Option Grid → Grid → Caps → ℕ → Pass → Result (Work × Record) Answer → Type 0

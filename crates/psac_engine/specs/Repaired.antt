@@ -1,5 +1,5 @@
 -- What a repair makes of the record that is kept, and of the slots of its tables.
-use Rattle.std.specs.Prelude.{◌≡◌, ◌⊎◌, List, Result, Ok, Err}
+use Rattle.std.specs.Prelude.{◌≡◌, ◌⊎◌, ◌+◌, ◌*◌, ◌≤◌, List, Result, Ok, Err}
 use Rattle.psac_ops.specs.declared.plain.Handle.{Handle}
 use Rattle.psac_slots.specs.Handles.{Member, later}
 use Rattle.psac_slots.specs.Claiming.{Accounted}
@@ -15,6 +15,7 @@ use Rattle.psac_traced.specs.Mended.{Mended}
 use Rattle.psac_record.specs.declared.record.Record.{Record}
 use Rattle.psac_record.specs.Kept.{Kept, bare, nodes_in, made_of, all_of}
 use Rattle.psac_record.specs.Shown.{kept_of}
+use Rattle.psac_repair.specs.Counted.{looks_for}
 use Rattle.psac_repair.specs.Exchanged.{Exchanged}
 use Rattle.psac_repair.specs.Going.{Views}
 use Rattle.psac_repair.specs.Taking.{taken, given}
@@ -43,7 +44,16 @@ pub record Repaired (w : World) (g : Grid) (old new : Kept) (p q : Views) : Type
   pub nodes : Aged (λ n. n) (all_of nodes_in (taken old new)) p.marks.claims q.marks.claims
   pub mods : Aged (made_handle p.values.fixed) (all_of made_of (taken old new)) p.values.claims q.values.claims
 
--- a record that is kept beside the work of a repair is repaired from the old one
+-- how often words were looked at and nodes asked for their marks, where a repair of this work put a record in place of an
+-- old one
+pub record IsSpent (work : Work) (old new : Kept) (p q : Views) : Type 0 where
+  -- a look at each read of a block that ran again or stands round one that did, and as many as the runs are counted for
+  pub looks : q.values.looks ≤ p.values.looks + looks_for old new
+  -- one ask, and at most four for each node that was visited
+  pub asks : q.marks.asks ≤ p.marks.asks + (1 + 4 * work.visited)
+
+-- a record that is kept beside the work of a repair is repaired from the old one, with no more looks and asks
 abbrev pub RepairsTo : {E : Type 0} → World → Grid → Kept → Views → Views → Result (Work × Record) E → Type 0
-RepairsTo w g old p q (Ok kept) = kept.0.mode ≡ mode.Repair → Repaired w g old (kept_of kept.1) p q
+RepairsTo w g old p q (Ok kept) =
+    kept.0.mode ≡ mode.Repair → Repaired w g old (kept_of kept.1) p q × IsSpent kept.0 old (kept_of kept.1) p q
 RepairsTo w g old p q (Err e) = Unit {0}

@@ -12,6 +12,7 @@ ghost use Rattle.psac_fork.specs.Whole.{IsOf};
 ghost use Rattle.psac_stage.specs.Resting.{IsRested};
 ghost use Rattle.psac_engine.specs.Running.{HasRun};
 ghost use Rattle.psac_stage.specs.Resting.{MayRun};
+ghost use Rattle.psac_engine.specs.Held.{Rises};
 ghost use Rattle.psac_engine.specs.Sound.{world_with};
 
 use crate::Answer;
@@ -76,6 +77,7 @@ pub fn run_anew<Rt: Threads + Sync, G: Gate + Sync>(
     ensures rested { IsRested result.1 }
     ensures run { (caps : Caps) (age : ℕ) → MayRun (length main.now.dests) grid.now caps age tables.now pass
         → HasRun (record { program = program.now; texts = texts.now; main = main.now }) grid.now caps age result.1 result.0 }
+    ensures rises { Rises pass.values.knows.claims result.1.values.knows.claims }
 {
     // From it the check learns what holds of each grid.
     grid.rows();
@@ -124,6 +126,7 @@ pub fn run_program<Rt: Threads + Sync, G: Gate + Sync>(
     ensures rested { IsRested result.1 }
     ensures run { (caps : Caps) (age : ℕ) → MayRun (length (world_with program.now texts.now).main.dests) grid.now caps age tables.now pass
         → HasRun (world_with program.now texts.now) grid.now caps age result.1 result.0 }
+    ensures rises { Rises pass.values.knows.claims result.1.values.knows.claims }
 {
     // From it the check learns that there are few outputs.
     outputs_of(program);

@@ -9,6 +9,7 @@ ghost use Rattle.psac_record.specs.Shown.{kept_of};
 ghost use Rattle.psac_repair.specs.Going.{views};
 ghost use Rattle.psac_stage.specs.Resting.{IsRested};
 ghost use Rattle.psac_engine.specs.Commit.{IsCaps, IsIdle, no_work};
+ghost use Rattle.psac_engine.specs.Held.{Ages};
 ghost use Rattle.psac_engine.specs.Mending.{Keeps, HasRunFrom};
 ghost use Rattle.psac_engine.specs.Repaired.{RepairsTo};
 ghost use Rattle.psac_engine.specs.Sound.{world_with};
@@ -53,6 +54,8 @@ pub fn commit_on<Rt: Threads + Sync, G: Gate + Sync>(
         → Keeps (world_with program.now texts.now) grid.old caps age tables.now kept pass
         → ForSome kept (λ r. RepairsTo (world_with program.now texts.now) grid.new (kept_of r) (views pass) (views result.1)
         result.0) }
+    // No generation falls, and where the record that was kept isn't repaired, those of what was out rise.
+    ensures ages { Ages pass.values.knows.claims result.1.values.knows.claims result.0 }
     ensures idle { is_some kept ≡ true → IsIdle grid.old batch.old → (r : Kept) × (result.0 ≡ Ok (no_work, r)) }
     ensures grid { grid.new ≡ put_all batch.old grid.old }
     ensures batch { batch.new ≡ empty_batch grid.new }

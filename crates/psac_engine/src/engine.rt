@@ -17,13 +17,14 @@ ghost use Rattle.psac_engine.specs.Sound.{fresh_over, world_with};
 use crate::Answer;
 use crate::anew::outputs_of;
 use crate::commit::commit_on;
+use crate::held::{Held, look_at};
 use crate::show::show_slots;
 use psac_base::NoMemory;
 use psac_check::Checked;
 use psac_fork::{Crew, Gate, Pass, Tables};
 use psac_inputs::{Batch, Grid};
 use psac_model::{Caps, Shown, Size, Work};
-use psac_ops::TextId;
+use psac_ops::{Handle, TextId};
 use psac_record::Record;
 use psac_stage::store::put_grid;
 use psac_syntax::Program;
@@ -61,6 +62,7 @@ pub struct Engine {
 
 impl Engine {
     ghost use Rattle.std.specs.Prelude.{◌+◌, ◌<◌, IfOk, IfSome, Some, Ok};
+    ghost use Rattle.psac_model.specs.Names.{Name, Out};
     ghost use Rattle.psac_model.specs.declared.ends.Mode.TheVariants as mode;
     ghost use Rattle.psac_model.specs.Tree.{size_of};
     ghost use Rattle.psac_model.specs.Fresh.{outcome, world_of};
@@ -68,6 +70,8 @@ impl Engine {
     ghost use Rattle.psac_engine.specs.Commit.{Answers, IsIdle, kept_after, most_commits, no_work};
     ghost use Rattle.psac_engine.specs.Engine.{IsOpened, IsSettled, caps_in, commits_in, grid_in, kept_in, world_in};
     ghost use Rattle.psac_engine.specs.Repairing.{IsRepaired};
+    ghost use Rattle.psac_engine.specs.declared.held.Held.TheVariants as told;
+    ghost use Rattle.psac_engine.specs.Held.{AreNamed, Names, Tells, IsOutlived, HandlesGo, drops, nothing_dropped};
 
     /// An engine in which nothing has run. The texts are those of the program, in its order.
     pub fn open(
@@ -115,8 +119,12 @@ impl Engine {
         ensures grid { grid_in self.new ≡ put_all batch.old (grid_in self.old) }
         ensures answer { Answers (caps_in self.old) (kept_in self.old) (outcome (world_in self.old) (caps_in self.old) (grid_in self.new)) result }
         ensures kept { kept_in self.new ≡ kept_after (world_in self.old) (grid_in self.new) result }
-        // A commit that says that it repaired the record did so: all of it is kept that isn't inside a block that ran again.
-        ensures repaired { IfOk result (λ work. work.mode ≡ mode.Repair → IsRepaired self.old self.new) }
+        // A commit that says that it repaired the record did so: all of it is kept that isn't inside a block that ran
+        // again. Beside what the runs looked at it looked at what these blocks and those round them read alone, and it
+        // asked for marks at the nodes alone that it says that it visited, and right below them.
+        ensures repaired { IfOk result (λ work. work.mode ≡ mode.Repair → IsRepaired self.old self.new work) }
+        // A handle of what was made is of the same name afterwards. Where that was dropped, it is of no modifiable ever again.
+        ensures handles { HandlesGo self.old self.new (drops (kept_in self.old) (kept_in self.new) result) }
         // Where a run is kept and the batch leaves the grid as it is, no memory is wanting.
         ensures idle { is_some (kept_in self.old) ≡ true → IsIdle (grid_in self.old) batch.old → result ≡ Ok no_work }
         ensures commits { commits_in self.new ≡ commits_in self.old + 1 }
@@ -125,6 +133,8 @@ impl Engine {
         ensures batch { batch.new ≡ empty_batch (grid_in self.new) }
         ensures goes { GoesInto batch.new (grid_in self.new) }
     {
+        // From these the check learns what holds of the grid before and after.
+        self.grid.rows();
         let Some(pass) = self.pass.take() else {
             unreachable!()
         };
@@ -141,6 +151,7 @@ impl Engine {
             self.kept.take(),
             pass,
         );
+        self.grid.rows();
         self.commits += 1;
         self.pass = Some(pass);
         match told {
@@ -184,6 +195,7 @@ impl Engine {
         ensures commits { commits_in self.new ≡ commits_in self.old }
         ensures world { world_in self.new ≡ world_in self.old }
         ensures caps { caps_in self.new ≡ caps_in self.old }
+        ensures handles { HandlesGo self.old self.new nothing_dropped }
     {
         if self.kept.is_none() {
             return Ok(None);
@@ -205,6 +217,61 @@ impl Engine {
             Ok(values) => Ok(Some(values)),
             Err(NoMemory) => Err(NoMemory),
         }
+    }
+
+    /// A law, and nothing is done: a handle is of one modifiable at most, and one that is outlived is of none.
+    pub fn handles(&self)
+        ensures { AreNamed self.now }
+    {
+        // From these the check learns what holds of the program and of the grid.
+        self.program.program();
+        self.grid.room();
+    }
+
+    /// The handle of an output, which each commit leaves.
+    pub fn out_handle(&self, i: u32) -> Handle
+        requires { i < length (world_in self.now).main.dests }
+        ensures { Names self.now result (Out i) }
+    {
+        // From it the check learns that there are few outputs.
+        outputs_of(&self.program);
+        Handle {
+            slot: self.grid.room() * self.grid.cols() + i,
+            generation: 0,
+        }
+    }
+
+    /// What is told of a handle, by the modifiable that has its slot and generation: its value, or that it is an output and
+    /// no run is kept. It is stale where no modifiable has both. The engine holds what it held.
+    pub fn held(&mut self, handle: Handle) -> Held
+        ensures named { (n : Name) → Names self.old handle n → Tells self.old n result }
+        ensures stale { ((n : Name) → Names self.old handle n → ⊥) → result ≡ told.Stale }
+        ensures outlived { IsOutlived self.old handle → result ≡ told.Stale }
+        ensures handles { HandlesGo self.old self.new nothing_dropped }
+        ensures kept { kept_in self.new ≡ kept_in self.old }
+        ensures grid { grid_in self.new ≡ grid_in self.old }
+        ensures commits { commits_in self.new ≡ commits_in self.old }
+        ensures world { world_in self.new ≡ world_in self.old }
+        ensures caps { caps_in self.new ≡ caps_in self.old }
+    {
+        // From it the check learns what holds of the program.
+        self.program.program();
+        let outs = outputs_of(&self.program);
+        let first = self.grid.room() * self.grid.cols();
+        let kept = self.kept.is_some();
+        let Some(mut pass) = self.pass.take() else {
+            unreachable!()
+        };
+        let told = look_at(
+            &self.tables.values,
+            &mut pass.values,
+            first,
+            outs,
+            kept,
+            handle,
+        );
+        self.pass = Some(pass);
+        told
     }
 
     /// The record that is kept, which shows the fresh run of the present grid; `None` exactly where none is.

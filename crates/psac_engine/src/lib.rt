@@ -5,6 +5,7 @@ mod anew;
 mod answer;
 mod commit;
 mod engine;
+mod held;
 mod repaired;
 mod rest;
 mod show;
@@ -12,3 +13,4 @@ mod trace;
 
 pub use answer::Answer;
 pub use engine::Engine;
+pub use held::Held;

@@ -10,6 +10,7 @@ ghost use Rattle.psac_record.specs.Shown.{kept_of};
 ghost use Rattle.psac_repair.specs.Going.{views};
 ghost use Rattle.psac_stage.specs.Resting.{IsRested, MayRun};
 ghost use Rattle.psac_engine.specs.Commit.{IsCaps};
+ghost use Rattle.psac_engine.specs.Held.{Ages, Rises};
 ghost use Rattle.psac_engine.specs.Mending.{Staged, Came, Finished, HasRunFrom};
 ghost use Rattle.psac_engine.specs.Repaired.{RepairsTo};
 ghost use Rattle.psac_engine.specs.Sound.{world_with};
@@ -78,6 +79,9 @@ fn finished(tables: &Tables, outcome: Outcome, pass: Pass) -> (Result<(Work, Rec
     ensures repairs { (w : Whole) (g h : Grid) (caps : Caps) (age : ℕ) (k : Kept) (p : Pass)
         → Staged w g h caps age tables.now k p → Came w h tables.now k p pass outcome
         → RepairsTo w h k (views p) (views result.1) result.0 }
+    ensures ages { (w : Whole) (g h : Grid) (caps : Caps) (age : ℕ) (k : Kept) (p : Pass)
+        → Staged w g h caps age tables.now k p → Came w h tables.now k p pass outcome
+        → Ages p.values.knows.claims result.1.values.knows.claims result.0 }
 {
     let pass = settled(tables, pass);
     let Outcome {
@@ -105,6 +109,7 @@ fn told_anew(
     ensures rested { IsRested result.1 }
     ensures run { (w : Whole) (g h : Grid) (caps : Caps) (age : ℕ) → IsGrid h → HasRunFrom w None h caps age pass told → HasRunFrom w (Some g) h caps age result.1 result.0 }
     ensures anew { IfOk result.0 (λ kept. kept.0.mode ≡ mode.Anew) }
+    ensures rises { Rises pass.values.knows.claims result.1.values.knows.claims }
 {
     match told {
         // A run that meets a fault keeps no record, so this isn't come to.
@@ -132,6 +137,7 @@ fn after_stop<Rt: Threads + Sync, G: Gate + Sync>(
     ensures run { (g : Grid) (caps : Caps) (age : ℕ) → Finished (world_with program.now texts.now) g grid.now caps age tables.now pass (Err stop)
         → HasRunFrom (world_with program.now texts.now) (Some g) grid.now caps age result.1 result.0 }
     ensures anew { IfOk result.0 (λ kept. kept.0.mode ≡ mode.Anew) }
+    ensures rises { Rises pass.values.knows.claims result.1.values.knows.claims }
 {
     // From it the check learns what holds of the grid.
     grid.rows();
@@ -172,6 +178,7 @@ pub fn commit_kept<Rt: Threads + Sync, G: Gate + Sync>(
     ensures repairs { (g : Grid) (caps : Caps) (age : ℕ)
         → Staged (world_with program.now texts.now) g grid.now caps age tables.now (kept_of tree) pass
         → RepairsTo (world_with program.now texts.now) grid.now (kept_of tree) (views pass) (views result.1) result.0 }
+    ensures ages { Ages pass.values.knows.claims result.1.values.knows.claims result.0 }
 {
     let (outcome, pass) = repaired(
         rt, alloc, crew, gate, tables, program, texts, grid, tree, pass,

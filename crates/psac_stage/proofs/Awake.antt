@@ -86,7 +86,7 @@ module _ (k : Kept) (ss : List ℕ) (p q : Views) (a : Changes ss p q) (alone : 
       none : (m : Handle) → Shares u m → ⊥
       none m h = subst (Member h.0) alone_now h.1
 
-  known_has : (m : Handle) (x : Plain) → known_of m v.mine ≡ Some x → Has v m
+  pub known_has : (m : Handle) (x : Plain) → known_of m v.mine ≡ Some x → Has v m
   known_has m x e = let o = known_entry m x v.mine e in (o.0, o.1, o.2)
 
   -- a value that the pass knew it knows, unless its slot changed

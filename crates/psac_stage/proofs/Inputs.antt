@@ -18,7 +18,7 @@ use Rattle.psac_stage.specs.Holding.{HasFixed, HasGrid}
 use Rattle.psac_stage.specs.Staging.{cell_slot, changed}
 use Rattle.psac_stage.proofs.Readies.{first_ready}
 
-all_member : {A : Type 0} (Q : A → Type 0) (xs : List A) → All Q xs → (x : A) → Member x xs → Q x
+pub all_member : {A : Type 0} (Q : A → Type 0) (xs : List A) → All Q xs → (x : A) → Member x xs → Q x
 all_member Q [] h x i = absurd i
 all_member Q (y ∷ xs) h x (inl e) = subst Q e (h 0 y (omega arith))
 all_member Q (y ∷ xs) h x (inr i) = all_member Q xs (λ k d l. h (suc k) d (omega (arith, l))) x i

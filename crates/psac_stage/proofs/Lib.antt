@@ -32,4 +32,5 @@ pub mod Grown
 pub mod Afters
 pub mod First
 pub mod Out
+pub mod Founding
 pub mod Mendable

@@ -69,11 +69,17 @@ module _ (v u : ValueView) (same : SameSlots v u) where
       omega (arith, e, low)
 
 pub same_none : (v : ValueView) → SameSlots v v
-same_none v = record { claims = refl; fixed = refl; known = refl; slots = refl }
+same_none v = record { claims = refl; fixed = refl; known = refl; slots = refl; looks = refl }
 
 pub same_then : (v u x : ValueView) → SameSlots v u → SameSlots u x → SameSlots v x
 same_then v u x a b =
-    record { claims = b.claims ∙ a.claims; fixed = b.fixed ∙ a.fixed; known = b.known ∙ a.known; slots = b.slots ∙ a.slots }
+    record {
+      claims = b.claims ∙ a.claims;
+      fixed = b.fixed ∙ a.fixed;
+      known = b.known ∙ a.known;
+      slots = b.slots ∙ a.slots;
+      looks = b.looks ∙ a.looks;
+    }
 
 -- a fixed slot may be written
 pub may_write : (n s : ℕ) (v : ValueView) → HasFixed n v → s < n → Has v (at_slot s)
@@ -130,6 +136,7 @@ stored n s x ws v u f low is back e =
         fixed = ap (λ (z : ValueView). z.fixed) e;
         known = ap (λ (z : ValueView). z.known) e;
         slots = ap handles mine ∙ slots_rewritten s (three_of ws) v.mine;
+        looks = ap (λ (z : ValueView). z.looks) e;
       };
       here = ap (λ z. option_and_then of_words (option_and_then all_known z)) here ∙ ap (option_and_then of_words) (known_all ws) ∙ back;
       others = λ k d. ap (value_in k) mine ∙ ap (λ z. option_and_then of_words (option_and_then all_known z)) (words_else s k (three_of ws) v.mine d);

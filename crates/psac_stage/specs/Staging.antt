@@ -20,6 +20,7 @@ use Rattle.psac_trace.specs.Raising.{AllBusy}
 use Rattle.psac_repair.specs.declared.world.World as repair
 use Rattle.psac_repair.specs.Going.{Views, views}
 use Rattle.psac_repair.specs.Repairing.{setting_of, BeforeIn}
+use Rattle.psac_repair.specs.Founded.{Coherent, Founded}
 use Rattle.psac_stage.specs.Holding.{value_in}
 use Rattle.psac_stage.specs.Storing.{SameSlots}
 use Rattle.psac_stage.specs.Recorded.{setting_at, Recorded, Mendable}
@@ -70,6 +71,17 @@ StagedMends =
     → HasAll g (length w.main.dests) caps age p → HasAll (put_all b g) (length w.main.dests) caps age q → IsRested p
     → Recorded w g k p.values.knows p.readers.knows p.marks.knows
     → Changes (changed g (length w.main.dests) b) (views p) (views q) → Mendable w (put_all b g) k (views q)
+
+-- and each node that is marked then stands over a block that read other words than are present; what the record read of
+-- its own is present
+abbrev pub StagedFounds : Type 0
+StagedFounds =
+    (w : World) (g : Grid) (b : Batch) (caps : Caps) (age : ℕ) (k : Kept) (p q : Pass)
+    → IsGrid g → IsBatch b → GoesInto b g → IsChecked w
+    → HasAll g (length w.main.dests) caps age p → HasAll (put_all b g) (length w.main.dests) caps age q → IsRested p
+    → Recorded w g k p.values.knows p.readers.knows p.marks.knows
+    → Changes (changed g (length w.main.dests) b) (views p) (views q)
+    → Coherent q.values.knows k × Founded q.values.knows q.marks.knows k
 
 -- the code that a repair goes by is the program's, over the grid
 abbrev pub IsOver : repair.World → World → Grid → Type 0

@@ -15,12 +15,13 @@ HasCells g v = (r c : ℕ) (x : Plain) → cell r c g ≡ Some x → value_in (r
 abbrev pub handles : List OwnedView → List Handle
 handles = map (λ (w : OwnedView). w.of)
 
--- nothing but words changed
+-- nothing but words changed, and none were looked at
 pub record SameSlots (v u : ValueView) : Type 0 where
   pub claims : u.claims ≡ v.claims
   pub fixed : u.fixed ≡ v.fixed
   pub known : u.known ≡ v.known
   pub slots : handles u.mine ≡ handles v.mine
+  pub looks : u.looks ≡ v.looks
 
 -- a slot has this value, and no other slot's words changed
 pub record Stored (s : ℕ) (x : Plain) (v u : ValueView) : Type 0 where

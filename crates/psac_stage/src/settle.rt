@@ -3,6 +3,7 @@ ghost use Rattle.std.specs.Prelude.{◌≡◌, ℕ, ◌+◌, ◌<◌};
 ghost use Rattle.psac_fork.specs.Whole.{IsOf};
 ghost use Rattle.psac_inputs.specs.Grid.{Grid, IsGrid};
 ghost use Rattle.psac_model.specs.declared.ends.Caps.{Caps};
+ghost use Rattle.psac_reclaim.specs.Owed.{ValuesNone};
 ghost use Rattle.psac_stage.specs.Places.{fixed_slots};
 ghost use Rattle.psac_stage.specs.Resting.{HasAll, IsRested, IsCleared};
 ghost use Rattle.psac_stage.specs.Settling.{Settles};
@@ -43,6 +44,8 @@ pub fn cleared(record: Record, tables: &Tables, pass: Pass) -> Pass
     ensures of { IsOf result tables.now }
     ensures all { (g : Grid) (outs : ℕ) (caps : Caps) (age : ℕ) → IsGrid g → HasAll g outs caps age pass → HasAll g outs caps (age + 1) result }
     ensures rested { IsRested result }
+    // Of modifiables, each that was out is free a generation later.
+    ensures values { ValuesNone pass.values.knows result.values.knows }
     ensures clear { (g : Grid) (outs : ℕ) (caps : Caps) (age : ℕ) → HasAll g outs caps age pass → IsCleared (fixed_slots g outs) result }
 {
     reset(record, Dropped::new(), tables, pass)

@@ -119,6 +119,7 @@ pub fn staged(
     requires goes { GoesInto batch.old grid.old }
     requires few { outs ≤ 24 }
     ensures may { (caps : Caps) (age : ℕ) → MayRun outs grid.old caps age tables.now pass → MayRun outs grid.new caps age tables.now result }
+    ensures same { SameSlots pass.values.knows result.values.knows }
     ensures grid { grid.new ≡ put_all batch.old grid.old }
     ensures batch { batch.new ≡ empty_batch grid.new }
     ensures goes { GoesInto batch.new grid.new }

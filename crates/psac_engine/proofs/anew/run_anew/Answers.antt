@@ -9,6 +9,9 @@ use Rattle.psac_engine.proofs.Calls.{begins_call, leaves_call, leaves_ok, leaves
 use Rattle.psac_stage.proofs.Settles.{settled_rested}
 use Rattle.psac_engine.proofs.Kept.{few_nodes}
 use Rattle.psac_stage.proofs.First.{first_recorded}
+use Rattle.psac_model.specs.declared.ends.CapKind.TheVariants as cap
+use Rattle.psac_trace.specs.Grown.{count}
+use Rattle.psac_engine.proofs.Rising.{rises_then, settled_rises, none_rises}
 use Rattle.psac_engine.proofs.anew.run_anew.Goals as goal
 
 pub run_main-told-requires-clause-begins : goal.run_main-told-requires-clause-begins
@@ -91,3 +94,23 @@ returns-in-Err-clause-run g c caps age may =
       subst (λ x. Answers caps None (outcome w caps c.args.grid.now) x) (answer_halted k.0 c.in-Err.halt ∙ ap Err (sym c.answer_of.ensures))
           (now_answered w c.args.grid.now ok c.requires.checked caps age c.args.tables.now c.args.pass may q (halted k.0 c.in-Err.halt) l z s),
     )
+
+pub returns-in-Ok-clause-rises : goal.returns-in-Ok-clause-rises
+returns-in-Ok-clause-rises g c =
+    let m = c.requires.may in
+    let k = c.run_main-told.ensures in
+    settled_rises c.args.pass c.run_main-told.result.1 c.settled-pass.result m.4.rested.mods (count cap.Mods k.1.made)
+    (k.1.moves.claims cap.Mods) c.settled-pass.ensures.settles
+
+pub returns-in-Err-clause-rises : goal.returns-in-Err-clause-rises
+returns-in-Err-clause-rises g c =
+    let m = c.requires.may in
+    let k = c.run_main-told.ensures in
+    let p = c.args.pass in
+    let q = c.run_main-told.result.1 in
+    let z = c.settled-pass.result in
+    let s = c.settled-pass.ensures.settles in
+    let v = c.cleared-pass.result.values.knows in
+    rises_then p.values.knows.claims z.values.knows.claims v.claims
+    (settled_rises p q z m.4.rested.mods (count cap.Mods k.1.made) (k.1.moves.claims cap.Mods) s)
+    (none_rises z.values.knows v (settled_rested q z s).mods c.cleared-pass.ensures.values)

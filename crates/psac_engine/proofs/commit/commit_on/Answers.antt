@@ -1,4 +1,5 @@
-use Rattle.std.proofs.Common.{◌≡◌, ◌+◌, None, Ok, option_map, sym, ◌∙◌, subst, arith, IsSome}
+use Rattle.std.proofs.Common.{◌≡◌, ◌+◌, None, Ok, option_map, is_some, refl, ap, sym, ◌∙◌, subst, arith, IsSome}
+use Rattle.psac_model.specs.declared.ends.Work.{Work}
 use Rattle.psac_model.specs.Fresh.{World, main_of}
 use Rattle.psac_model.specs.Series.{meets}
 use Rattle.psac_record.specs.Shown.{kept_of}
@@ -13,6 +14,7 @@ use Rattle.psac_engine.specs.Repaired.{RepairsTo}
 use Rattle.psac_engine.proofs.Kept.{from_run, older_run, staged_by, may_by}
 use Rattle.psac_engine.proofs.Modes.{repairs_before}
 use Rattle.psac_engine.proofs.Rests.{rest_run, rest_repairs}
+use Rattle.psac_engine.proofs.Rising.{ages_from, ages_none, repair_ages, rises_same}
 use Rattle.psac_engine.proofs.commit.commit_on.Goals as goal
 
 pub stage_batch-pass-requires-clause-recorded : goal.stage_batch-pass-requires-clause-recorded
@@ -88,3 +90,19 @@ returns-else-is_at_rest-clause-repairs g c = λ caps age fit low k x at.
     (repairs_before w h (kept_of c.in-Some.record) (views c.args.pass) (views c.stage_batch-pass.result) q
     (changed c.args.grid.now c.outputs_of-outs.result c.is_at_rest.new.batch) e.changes told
     (c.commit_kept.ensures.repairs c.args.grid.now caps age staged))
+
+pub returns-then-is_at_rest-clause-ages : goal.returns-then-is_at_rest-clause-ages
+returns-then-is_at_rest-clause-ages g c =
+    let k = c.args.pass.values.knows.claims in
+    repair_ages k k c.work_at_rest.result c.in-Some.record (ap (λ (x : Work). x.mode) c.work_at_rest.ensures) (rises_same k k refl)
+
+pub returns-else-is_at_rest-clause-ages : goal.returns-else-is_at_rest-clause-ages
+returns-else-is_at_rest-clause-ages g c =
+    ages_from c.args.pass.values.knows.claims c.stage_batch-pass.result.values.knows.claims c.commit_kept.result.1.values.knows.claims
+    c.commit_kept.result.0 c.stage_batch-pass.ensures.changes.same.claims c.commit_kept.ensures.ages
+
+pub returns-in-None-clause-ages : goal.returns-in-None-clause-ages
+returns-in-None-clause-ages g c =
+    let need = c.requires.keeps in
+    ages_none c.args.pass.values.knows.claims c.staged-pass.result.values.knows.claims c.run_program.result.1.values.knows.claims
+    c.run_program.result.0 c.staged-pass.ensures.same.claims (need.4.cleared (ap is_some c.in-None.is)).mods c.run_program.ensures.rises

@@ -1,4 +1,4 @@
-use Rattle.std.proofs.Common.{◌≡◌, Some, Err, ap, ◌∙◌, subst, arith}
+use Rattle.std.proofs.Common.{◌≡◌, Some, Err, refl, ap, ◌∙◌, subst, arith}
 use Rattle.psac_model.specs.Fresh.{World, fresh, outcome}
 use Rattle.psac_trace.specs.declared.halt.Halt.TheVariants as halt
 use Rattle.psac_repair.specs.declared.outcome.Stop.{Stop}
@@ -9,6 +9,7 @@ use Rattle.psac_engine.specs.Sound.{world_with}
 use Rattle.psac_engine.proofs.Outcomes.{wanting}
 use Rattle.psac_engine.proofs.Kept.{from_run, anew_run, stopped_run}
 use Rattle.psac_engine.proofs.Modes.{run_anew}
+use Rattle.psac_engine.proofs.Rising.{rises_same, rises_then}
 use Rattle.psac_engine.proofs.repaired.after_stop.Goals as goal
 
 pub told_anew-requires : goal.told_anew-requires
@@ -66,3 +67,14 @@ returns-in-Full-clause-anew g c =
     let told : Finished w need.0 c.args.grid.now need.1 need.2 c.args.tables.now c.args.pass (Err (stop.Halt (halt.Full c.in-Full.field-0 c.in-Full.field-1))) =
     subst (λ (z : Stop). Finished w need.0 c.args.grid.now need.1 need.2 c.args.tables.now c.args.pass (Err z)) same need.5 in
     run_anew w c.args.grid.now need.1 need.2 c.run_program.result.1 c.run_program.result.0 (c.run_program.ensures.run need.1 need.2 told.0)
+
+pub returns-in-Fault-clause-rises : goal.returns-in-Fault-clause-rises
+returns-in-Fault-clause-rises g c = rises_same c.args.pass.values.knows.claims c.args.pass.values.knows.claims refl
+
+pub returns-in-NoMemory-clause-rises : goal.returns-in-NoMemory-clause-rises
+returns-in-NoMemory-clause-rises g c = rises_same c.args.pass.values.knows.claims c.args.pass.values.knows.claims refl
+
+pub returns-in-Unsettled-clause-rises : goal.returns-in-Unsettled-clause-rises
+returns-in-Unsettled-clause-rises g c =
+    rises_then c.args.pass.values.knows.claims c.run_program-told.result.1.values.knows.claims c.told_anew.result.1.values.knows.claims
+    c.run_program-told.ensures.rises c.told_anew.ensures.rises

@@ -5,6 +5,7 @@ use Rattle.psac_engine.specs.Sound.{world_with}
 use Rattle.psac_repair.specs.Going.{views}
 use Rattle.psac_engine.proofs.Kept.{finished_ok, finished_err}
 use Rattle.psac_engine.proofs.Modes.{repairs_ok, anew_repairs}
+use Rattle.psac_engine.proofs.Rising.{ages_ok, ages_stop}
 use Rattle.psac_engine.proofs.repaired.commit_kept.Goals as goal
 
 pub finished-told-requires : goal.finished-told-requires
@@ -63,3 +64,21 @@ pub returns-in-Err-clause-repairs : goal.returns-in-Err-clause-repairs
 returns-in-Err-clause-repairs g c = λ one caps age staged.
     let w : World = world_with c.args.program.now c.args.texts.now in
     anew_repairs w c.args.grid.now (kept_of c.args.tree) (views c.args.pass) (views c.after_stop.result.1) c.after_stop.result.0 c.after_stop.ensures.anew
+
+pub returns-in-Ok-clause-ages : goal.returns-in-Ok-clause-ages
+returns-in-Ok-clause-ages g c =
+    let need = c.requires in
+    let w : World = world_with c.args.program.now c.args.texts.now in
+    let came = c.repaired-outcome.ensures need.0 need.1 need.2 need.4 in
+    let ages = c.finished-told.ensures.ages w need.0 c.args.grid.now need.1 need.2 (kept_of c.args.tree) c.args.pass need.4 came in
+    ages_ok c.args.pass.values.knows.claims c.finished-told.result.1.values.knows.claims c.finished-told.result.0 c.in-Ok.kept
+    c.in-Ok.is ages
+
+pub returns-in-Err-clause-ages : goal.returns-in-Err-clause-ages
+returns-in-Err-clause-ages g c =
+    let need = c.requires in
+    let w : World = world_with c.args.program.now c.args.texts.now in
+    let came = c.repaired-outcome.ensures need.0 need.1 need.2 need.4 in
+    let ages = c.finished-told.ensures.ages w need.0 c.args.grid.now need.1 need.2 (kept_of c.args.tree) c.args.pass need.4 came in
+    ages_stop c.args.pass.values.knows.claims c.finished-told.result.1.values.knows.claims c.after_stop.result.1.values.knows.claims
+    c.finished-told.result.0 c.in-Err.stop c.in-Err.is c.after_stop.result.0 ages c.after_stop.ensures.rises

@@ -2,13 +2,14 @@ use Rattle.std.proofs.Common.{◌≢◌, AllPairs, None, [], refl, sym, subst}
 use Rattle.psac_traced.specs.Blocks.{numbers_of}
 use Rattle.psac_numbers.proofs.Program.{program_distinct}
 use Rattle.psac_record.specs.Shown.{kept_of}
-use Rattle.psac_repair.specs.Outcomes.{end_of}
+use Rattle.psac_repair.specs.Counted.{Spent}
+use Rattle.psac_repair.specs.Outcomes.{end_of, OnGood}
 use Rattle.psac_repair.specs.Going.{views}
 use Rattle.psac_repair.proofs.Indexed.{is_indexed}
 use Rattle.psac_repair.proofs.Layers.{record_wants}
 use Rattle.psac_engine.specs.Sound.{world_with}
 use Rattle.psac_engine.specs.Mending.{Told}
-use Rattle.psac_engine.proofs.Mendings.{around, begins_here, told_here}
+use Rattle.psac_engine.proofs.Mendings.{around, begins_here, told_here, spent_here}
 use Rattle.psac_engine.proofs.Repairs.{program}
 use Rattle.psac_engine.proofs.repaired.repaired.Goals as goal
 
@@ -30,6 +31,7 @@ returns-in_default-blocks_of g c grid caps age s =
       told = subst (λ e. Told w c.args.grid.now k new p p e) (sym c.no_memory.ensures.end)
           (record_wants (program w grid c.args.grid.now caps age c.args.tables.now k c.args.pass s) [] None k new p s.mendable);
       counts = c.no_memory.ensures.counts k;
+      spent = subst (λ e. OnGood e (Spent p.values p.values p.marks p.marks k new)) (sym c.no_memory.ensures.end) tt;
     }
 
 pub repair-requires-clause-begins : goal.repair-requires-clause-begins
@@ -61,4 +63,8 @@ returns g c grid caps age s =
           (sym c.in-Some.ensures) world c.as_slice.result.now c.ground.ensures c.as_slice.ensures refl c.as_slice-funcs.ensures b.ensures
           (kept_of a.tree) (kept_of r.result.0.tree) a.pass r.result.1 (end_of r.result.0) s.mendable r.ensures.left;
       counts = r.ensures.counts;
+      spent = spent_here a.program.now c.program-program.result.now a.texts.now a.grid.now f
+          c.program-program.ensures.same (sym c.in-Some.ensures) world c.as_slice.result.now c.ground.ensures
+          c.as_slice.ensures refl c.as_slice-funcs.ensures b.ensures (kept_of a.tree) a.pass r.result.1 r.result.0
+          s.mendable s.coherent s.founded r.ensures.spares;
     }

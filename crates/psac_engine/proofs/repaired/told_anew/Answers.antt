@@ -1,7 +1,8 @@
-use Rattle.std.proofs.Common.{length, None, Some}
+use Rattle.std.proofs.Common.{length, None, Some, refl}
 use Rattle.psac_model.specs.Fresh.{fresh, outcome}
 use Rattle.psac_engine.proofs.Outcomes.{wanting}
 use Rattle.psac_engine.proofs.Kept.{kept_all}
+use Rattle.psac_engine.proofs.Rising.{rises_same, none_rises}
 use Rattle.psac_engine.proofs.repaired.told_anew.Goals as goal
 
 pub returns-in-Ok-clause-run : goal.returns-in-Ok-clause-run
@@ -11,3 +12,10 @@ returns-in-Ok-clause-run c = λ w g h caps age ok run.
       c.cleared.ensures.clear h (length w.main.dests) caps age all,
       wanting caps (Some (fresh w g)) (outcome w caps h),
     )
+
+pub returns-in-Ok-clause-rises : goal.returns-in-Ok-clause-rises
+returns-in-Ok-clause-rises c =
+    none_rises c.args.pass.values.knows c.cleared.result.values.knows c.requires.run.5.mods c.cleared.ensures.values
+
+pub returns-in-Err-clause-rises : goal.returns-in-Err-clause-rises
+returns-in-Err-clause-rises c = rises_same c.args.pass.values.knows.claims c.args.pass.values.knows.claims refl

@@ -5,6 +5,7 @@ use Rattle.psac_repair.specs.Mends.{Needs}
 use Rattle.psac_repair.specs.Going.{views, Before, Roomy}
 use Rattle.psac_inputs.specs.Batch.{put_all}
 use Rattle.psac_stage.specs.Recorded.{setting_at}
+use Rattle.psac_stage.proofs.Founding.{coherent_now, founded_now}
 use Rattle.psac_stage.proofs.Inputs.{inputs_in}
 use Rattle.psac_stage.proofs.Mendable.{mendable}
 use Rattle.psac_stage.proofs.Placed.{opened_kept, room_kept, cols_kept}
@@ -24,3 +25,10 @@ returns-clause-begins c z w g k p same m =
     (subst (λ fs. Before (Needs (setting_at w g) fs (IsCode fs z.main.now)) fs [] None (bare k) k p) (sym same.1)
     (subst (λ b. Before (Needs (setting_at w g) w.program.funcs (IsCode w.program.funcs b)) w.program.funcs [] None (bare k) k p)
     (sym same.2) m))
+
+pub returns-clause-founds : goal.returns-clause-founds
+returns-clause-founds c w g b caps age k p q ok sound goes checked all now rested kept changes =
+    let whole = rested.mods.whole in (
+      coherent_now w g b ok sound goes checked caps age k (views p) (views q) all now whole kept changes,
+      founded_now w g b ok sound goes checked caps age k (views p) (views q) all now whole kept changes,
+    )

@@ -21,6 +21,9 @@ use Rattle.psac_engine.proofs.Engines.{for_some, for_none, good_means, some_not}
 use Rattle.psac_engine.proofs.Keeping.{low, keeps, ran}
 use Rattle.psac_engine.proofs.Kept.{answers_kept}
 use Rattle.psac_engine.proofs.Modes.{ended_well, none_anew, anew_not, repairs_ok, kept_or, some_kept, ok_same, err_not}
+use Rattle.psac_model.specs.declared.ends.Mode.TheVariants as mode
+use Rattle.psac_engine.specs.Held.{IsAnew}
+use Rattle.psac_engine.proofs.Handling.{handles_gone, handles_repaired, shape_kept, drops_error, drops_anew, drops_repair, mode_or}
 use Rattle.psac_engine.proofs.engine.Engine.commit.Goals as goal
 
 pub commit_on-told-requires-clause-keeps : goal.commit_on-told-requires-clause-keeps
@@ -140,20 +143,25 @@ returns-in-Ok-clause-repaired g c = λ mode.
       | inl none ↦ absurd
           (anew_not c.in-Ok.work (none_anew e.caps (outcome w e.caps h) c.in-Ok.work
           (subst (λ (o : Option Record). Answers e.caps (option_map (λ (r : Record). fresh w e.grid) o) (outcome w e.caps h) (Ok c.in-Ok.work)) none answer)) mode)
-      | inr some ↦ record {
-        old = some.0;
-        new = c.in-Ok.record;
-        before = p;
-        after = q;
-        kept = some.1;
-        keeps = refl;
-        had = at;
-        has = refl;
-        repaired = repairs_ok w h (kept_of some.0) (views p) (views q) c.commit_on-told.result.0 (c.in-Ok.work, c.in-Ok.record) c.in-Ok.is
-            (subst (λ (xs : List TextId). RepairsTo (world_with e.program xs) h (kept_of some.0) (views p) (views q) c.commit_on-told.result.0) texts
-            (told some.0 (same ∙ some.1)))
-            mode;
-      }
+      | inr some ↦
+          let all = c.commit_on-told.result.0 in
+          let To : List TextId → Type 0 =
+          λ xs. RepairsTo (world_with e.program xs) h (kept_of some.0) (views p) (views q) all in
+          let is = subst To texts (told some.0 (same ∙ some.1)) in
+          let both = repairs_ok w h (kept_of some.0) (views p) (views q) all (c.in-Ok.work, c.in-Ok.record)
+          c.in-Ok.is is mode in
+          record {
+            old = some.0;
+            new = c.in-Ok.record;
+            before = p;
+            after = q;
+            kept = some.1;
+            keeps = refl;
+            had = at;
+            has = refl;
+            repaired = both.0;
+            spent = both.1;
+          }
     ]
 
 pub returns-in-Ok-clause-idle : goal.returns-in-Ok-clause-idle
@@ -169,3 +177,68 @@ returns-in-Err-clause-idle g c = λ some idle.
     let w = world_with e.program e.consts.items in
     let told = c.commit_on-told.ensures.idle (ap is_some c.take-2.ensures.value ∙ some_kept (λ (r : Record). fresh w e.grid) e.kept some) idle in
     absurd (err_not c.in-Err.answer (no_work, told.0) (sym c.in-Err.is ∙ told.1))
+
+-- what becomes of handles
+
+pub returns-in-Ok-clause-handles : goal.returns-in-Ok-clause-handles
+returns-in-Ok-clause-handles g c =
+    let e = c.args.self.now in
+    let w = world_with e.program e.consts.items in
+    let b = c.args.batch.now in
+    let h = c.commit_on-told.new.grid in
+    let p = c.in-Some.pass in
+    let q = c.commit_on-told.result.1 in
+    let r = c.in-Ok.record in
+    let work = c.in-Ok.work in
+    let run = ran e c.requires.few p (sym c.in-Some.ensures.value) c.take-2.result c.take-2.ensures.value c.deref.result.now
+    c.deref.ensures.value h q c.commit_on-told.result.0 (Ok (work, r)) c.in-Ok.is c.commit_on-told.ensures.run in
+    let at = sym c.in-Some.ensures.value in
+    let k = c.take-2.result in
+    let same = c.take-2.ensures.value in
+    let ts = c.deref.result.now in
+    let texts = c.deref.ensures.value in
+    let told = c.commit_on-told.ensures.repairs e.caps (1 + 2 * e.commits) e.within (low e c.requires.few p at k same ts texts)
+    (keeps e c.requires.few p at k same ts texts) in
+    let answer = answers_kept w e.grid e.caps k e.kept (outcome w e.caps h) (Ok work) same run.4 in
+    let s = shape_kept e.grid b h c.commit_on-told.ensures.grid in
+    let ages = c.commit_on-told.ensures.ages in
+    let whole = (e.rested p at).mods.whole in
+    let fixed = (e.all p at).fixed in
+    let anew : work.mode ≡ mode.Anew → IsAnew c.commit_on-told.result.0 = λ is. subst IsAnew (sym c.in-Ok.is) is in
+    elim (mode_or work.mode) [
+      | inl repair ↦
+          elim (kept_or e.kept) [
+            | inl none ↦ absurd
+                (anew_not work (none_anew e.caps (outcome w e.caps h) work
+                (subst (λ (o : Option Record). Answers e.caps (option_map (λ (x : Record). fresh w e.grid) o) (outcome w e.caps h)
+                (Ok work)) none answer)) repair)
+            | inr some ↦
+                (let rep = repairs_ok w h (kept_of some.0) (views p) (views q) c.commit_on-told.result.0 (work, r) c.in-Ok.is
+                (subst (λ (xs : List TextId). RepairsTo (world_with e.program xs) h (kept_of some.0) (views p) (views q)
+                c.commit_on-told.result.0) texts (told some.0 (same ∙ some.1)))
+                repair in
+                handles_repaired e _ p q at refl c.rows.ensures.sound c.rows-2.ensures.sound s.0 s.1 s.2 refl fixed run.0.fixed whole
+                c.commit_on-told.ensures.rested.mods.whole ages.rises some.0 r some.1 refl run.2.left_it run.2.values rep.0 _
+                (drops_repair _ _ (fresh w e.grid) (fresh w h) work (ap (option_map (λ (x : Record). fresh w e.grid)) some.1) refl repair))
+          ]
+      | inr is ↦
+          handles_gone e _ p q at refl c.rows.ensures.sound c.rows-2.ensures.sound s.0 s.1 s.2 refl fixed run.0.fixed whole
+          c.commit_on-told.ensures.rested.mods.whole ages.rises _ (drops_anew _ _ work is) (ages.renews (anew is))
+    ]
+
+pub returns-in-Err-clause-handles : goal.returns-in-Err-clause-handles
+returns-in-Err-clause-handles g c =
+    let e = c.args.self.now in
+    let b = c.args.batch.now in
+    let h = c.commit_on-told.new.grid in
+    let p = c.in-Some.pass in
+    let q = c.commit_on-told.result.1 in
+    let a = c.in-Err.answer in
+    let run = ran e c.requires.few p (sym c.in-Some.ensures.value) c.take-2.result c.take-2.ensures.value c.deref.result.now
+    c.deref.ensures.value h q c.commit_on-told.result.0 (Err a) c.in-Err.is c.commit_on-told.ensures.run in
+    let at = sym c.in-Some.ensures.value in
+    let s = shape_kept e.grid b h c.commit_on-told.ensures.grid in
+    let ages = c.commit_on-told.ensures.ages in
+    handles_gone e _ p q at refl c.rows.ensures.sound c.rows-2.ensures.sound s.0 s.1 s.2 refl (e.all p at).fixed run.0.fixed
+    (e.rested p at).mods.whole c.commit_on-told.ensures.rested.mods.whole ages.rises _ (drops_error _ _ a)
+    (ages.renews (subst IsAnew (sym c.in-Err.is) tt))

@@ -12,6 +12,7 @@ use Rattle.psac_engine.specs.Outputs.{HasOutputs}
 use Rattle.psac_engine.specs.Sound.{world_with}
 use Rattle.psac_engine.proofs.Engines.{for_some, some_not}
 use Rattle.psac_engine.proofs.Showing.{all_looked, have_outputs, is_kept, outputs_kept, outputs_looked, outputs_told, rewound_looked, stands_looked}
+use Rattle.psac_engine.proofs.Handling.{handles_same, handles_looked}
 use Rattle.psac_engine.proofs.engine.Engine.shown.Goals as goal
 
 pub show_slots-told-requires-clause-fixed : goal.show_slots-told-requires-clause-fixed
@@ -69,3 +70,14 @@ returns-in-Ok-clause-shown c =
     let first : c.room.result * c.cols.result ≡ first_output e.grid = ap (λ a. a * c.cols.result) c.room.ensures.value ∙ ap (λ b. e.grid.room * b) c.cols.ensures.value in
     outputs_kept w e.grid e.kept c.in-Ok.values.items some
     (outputs_told w e.grid c.in-Some.pass.values.knows (c.room.result * c.cols.result) c.outputs_of-outs.result c.in-Ok.values.items (e.outputs c.in-Some.pass (sym c.in-Some.ensures.value) some) first c.outputs_of-outs.ensures.many c.in-Ok.ensures.shown)
+
+pub returns-then-is_none-clause-handles : goal.returns-then-is_none-clause-handles
+returns-then-is_none-clause-handles c = handles_same c.args.self.now
+
+pub returns-in-Ok-clause-handles : goal.returns-in-Ok-clause-handles
+returns-in-Ok-clause-handles c =
+    handles_looked c.args.self.now _ c.in-Some.pass _ (sym c.in-Some.ensures.value) refl refl c.show_slots-told.ensures.looked
+
+pub returns-in-Err-clause-handles : goal.returns-in-Err-clause-handles
+returns-in-Err-clause-handles c =
+    handles_looked c.args.self.now _ c.in-Some.pass _ (sym c.in-Some.ensures.value) refl refl c.show_slots-told.ensures.looked
