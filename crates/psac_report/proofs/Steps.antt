@@ -5,7 +5,7 @@ use Rattle.psac_model.specs.Fresh.{World}
 use Rattle.psac_report.specs.Script.{Command, Skip, Set, SetRows, Commit, Show, ShowTree, HoldOut, HoldRef, HoldFst, HoldSnd, ShowHeld, Quit, command_of}
 use Rattle.psac_report.specs.Session.{State, Reply, reply_text, step_of}
 use Rattle.psac_report.specs.Report.{answered, replies, written_then}
-use Rattle.psac_report.specs.First.{answered_by, replies_by}
+use Rattle.psac_report.specs.Steps.{answered_by, replies_by}
 
 then_same : (w : World) (f g : State → List ℕ) → ((s : State) → f s ≡ g s) → (after : State × Reply) → written_then w f after ≡ written_then w g after
 then_same w f g same (s, reply) = ap (λ xs. reply_text w s.texts reply ++ xs) (same s)

@@ -4,4 +4,4 @@ pub mod Script
 pub mod Session
 pub mod Report
 pub mod Dump
-pub mod First
+pub mod Steps

@@ -1,5 +1,5 @@
 -- A session, line by line.
-use Rattle.std.specs.Prelude.{ℕ, suc, pos, ◌&&◌, ◌||◌, nat_lt, nat_le, Bool, true, false, if◌then◌else◌, List, [], ◌∷◌, length, map, replicate, Option, Some, None, option_map, option_and_then, Result, Ok, Err, slice_get, slice_set, unwrap_or, codes}
+use Rattle.std.specs.Prelude.{ℕ, suc, pos, ◌&&◌, nat_lt, nat_le, Bool, true, false, if◌then◌else◌, List, [], ◌∷◌, length, map, replicate, Option, Some, None, option_map, option_and_then, Result, Ok, Err, slice_get, slice_set, unwrap_or, codes}
 use Rattle.psac_ops.specs.declared.plain.Plain.{Plain}
 use Rattle.psac_ops.specs.Value.{Value, int, ref, pair}
 use Rattle.psac_ops.specs.Named.{cell_value}
@@ -67,10 +67,10 @@ pub record Kept : Type 0 where
   pub tree : Tree Name
   pub heap : Heap
 
--- a place that holds a modifiable, and whether it is stale
-pub record Place : Type 0 where
-  pub name : Name
-  pub stale : Bool
+-- what a place holds: a modifiable; or one that is stale, which needs no name, since no reply tells more of it than that
+pub data Place : Type 0 where
+  Holding : (name : Name) → Place
+  Gone : Place
 
 pub record State : Type 0 where
   pub grid : Grid
@@ -95,13 +95,13 @@ abbrev pub is_made_inside : List Path → Name → Bool
 is_made_inside zs (Made p) = is_inside zs p
 is_made_inside zs _ = false
 
--- places whose modifiables pass the test become stale
-abbrev pub gone_stale : (Name → Bool) → Option Place → Option Place
-gone_stale test None = None
-gone_stale test (Some p) = Some (record p { stale = p.stale || test p.name })
+-- a place whose modifiable passes the test becomes stale
+abbrev pub gone_stale : (Name → Bool) → Place → Place
+gone_stale test (Holding m) = if test m then Gone else Holding m
+gone_stale test Gone = Gone
 
 abbrev pub staled : (Name → Bool) → State → State
-staled test s = record s { places = map (gone_stale test) s.places }
+staled test s = record s { places = map (option_map (gone_stale test)) s.places }
 
 -- what a commit drops: what was made inside the blocks that it ran again, or all that was made
 abbrev pub is_lost : Mode → List Path → Name → Bool
@@ -162,7 +162,7 @@ abbrev pub rows_step : ℕ → State → State × Reply
 rows_step n s = if nat_le n s.staged.room then (record s { staged = with_rows n s.staged }, Nothing) else (s, RefusedRange)
 
 abbrev pub with_place : ℕ → Name → State → State
-with_place h m s = record s { places = slice_set s.places h (Some (record { name = m; stale = false })) }
+with_place h m s = record s { places = slice_set s.places h (Some (Holding m)) }
 
 abbrev pub hold_out : World → ℕ → ℕ → State → State × Reply
 hold_out w h i s =
@@ -174,7 +174,8 @@ value_or_none None = Err NoRecord
 
 abbrev pub value_of_place : State → Option Place → Result (Value Name) Reply
 value_of_place s None = Err RefusedEmpty
-value_of_place s (Some p) = if p.stale then Err Stale else value_or_none (value_in s p.name)
+value_of_place s (Some (Holding m)) = value_or_none (value_in s m)
+value_of_place s (Some Gone) = Err Stale
 
 -- the value of what a place holds, or why there is none
 abbrev pub value_at : State → ℕ → Result (Value Name) Reply

@@ -1,5 +1,5 @@
 -- What is done with an engine, as a report over the program and the input that opened it.
-use Rattle.std.proofs.Common.{◌≡◌, ◌⊎◌, inl, inr, ℕ, ◌≤◌, List, Option, Some, None, option_map, refl, ◌∙◌, arith}
+use Rattle.std.proofs.Common.{◌≡◌, ◌⊎◌, inl, inr, ℕ, ◌≤◌, List, Option, Some, None, option_map, refl, sym, ◌∙◌, arith}
 use Rattle.psac_base.specs.Feeds.{lines_of}
 use Rattle.psac_base.specs.Outside.{IsFile}
 use Rattle.psac_syntax.specs.declared.program.Program.{Program}
@@ -10,9 +10,10 @@ use Rattle.psac_model.specs.declared.ends.Caps.{Caps}
 use Rattle.psac_model.specs.Fresh.{World}
 use Rattle.psac_model.specs.Names.{Name, Heap}
 use Rattle.psac_model.specs.Run.{Ran}
-use Rattle.psac_report.specs.Report.{once_report}
-use Rattle.psac_report.specs.Session.{begun}
-use Rattle.psac_report.specs.First.{first_report, first_step, replies_by}
+use Rattle.psac_report.specs.Report.{once_report, session_report}
+use Rattle.psac_report.specs.Session.{begun, step_of}
+use Rattle.psac_report.specs.Steps.{replies_by}
+use Rattle.psac_report.proofs.Steps.{replies_same}
 use Rattle.psac_command.specs.declared.request.Mode.{Mode}
 use Rattle.psac_command.specs.declared.request.Mode.TheVariants.{Once, Session}
 use Rattle.psac_command.specs.Asked.{Asked}
@@ -27,19 +28,20 @@ use Rattle.psac_open.specs.Loaded.{Files, HasProgram}
 use Rattle.psac_run.specs.Answer.{HasText, Held, Reported, Wrote, WrotePart, answers_of, report_of}
 
 answers_with : (w1 w : World) (c1 c : Caps) (g1 g : Grid) (kept : Option (Ran Name Heap)) (texts : Texts) (lines : List (List ℕ)) → w1 ≡ w → c1 ≡ c → g1 ≡ g → kept ≡ None
-    → replies_by w1 (first_step w1 c1) lines (record { grid = g1; texts = texts; kept = option_map kept_of kept; staged = put_all (empty_batch g1) g1; places = no_places })
-    ≡ replies_by w (first_step w c) lines (begun g texts)
+    → replies_by w1 (step_of w1 c1) lines (record { grid = g1; texts = texts; kept = option_map kept_of kept; staged = put_all (empty_batch g1) g1; places = no_places })
+    ≡ replies_by w (step_of w c) lines (begun g texts)
 unfolding no_places
 answers_with w1 w c1 c g1 g kept texts lines of_world of_caps of_grid of_kept = rw (of_world, of_caps, of_grid, of_kept) refl
 
 pub answers_same : (w : World) (c : Caps) (g : Grid) (e : Engine) (texts : Texts) (lines : List (List ℕ)) → world_in e ≡ w → IsOpened c g e → answer_of e texts lines ≡ answers_of w c g texts lines
-answers_same w c g e texts lines of is = answers_with (world_in e) w (caps_in e) c (grid_in e) g (kept_in e) texts lines of is.caps is.grid is.kept
+answers_same w c g e texts lines of is =
+    answers_with (world_in e) w (caps_in e) c (grid_in e) g (kept_in e) texts lines of is.caps is.grid is.kept ∙ sym (replies_same w c lines (begun g texts))
 
 once_with : (w1 w : World) (c1 c : Caps) (g1 g : Grid) (texts : Texts) → w1 ≡ w → c1 ≡ c → g1 ≡ g → once_report w1 c1 g1 texts ≡ once_report w c g texts
 once_with w1 w c1 c g1 g texts of_world of_caps of_grid = rw (of_world, of_caps, of_grid) refl
 
 report_same : (mode : Mode) (w : World) (c : Caps) (g : Grid) (e : Engine) (texts : Texts) (script : List ℕ) → world_in e ≡ w → IsOpened c g e → report_in mode e texts script ≡ report_of mode w c g texts script
-unfolding first_report
+unfolding session_report
 report_same Once w c g e texts script of is = once_with (world_in e) w (caps_in e) c (grid_in e) g texts of is.caps is.grid
 report_same Session w c g e texts script of is = answers_same w c g e texts (lines_of script) of is
 

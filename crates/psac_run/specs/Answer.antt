@@ -7,9 +7,8 @@ use Rattle.psac_inputs.specs.Texts.{Texts}
 use Rattle.psac_model.specs.declared.ends.Caps.{Caps}
 use Rattle.psac_model.specs.Fresh.{World}
 use Rattle.psac_report.specs.Refused.{usage_line}
-use Rattle.psac_report.specs.Report.{once_report}
+use Rattle.psac_report.specs.Report.{once_report, replies, session_report}
 use Rattle.psac_report.specs.Session.{begun}
-use Rattle.psac_report.specs.First.{first_report, first_step, replies_by}
 use Rattle.psac_command.specs.declared.request.Mode.{Mode}
 use Rattle.psac_command.specs.declared.request.Mode.TheVariants.{Once, Session}
 use Rattle.psac_command.specs.Asked.{Asked}
@@ -25,7 +24,7 @@ Words = Option Asked
 -- the report of one run, or of a session over a script
 abbrev pub report_of : Mode → World → Caps → Grid → Texts → List ℕ → List ℕ
 report_of Once w caps g texts script = once_report w caps g texts
-report_of Session w caps g texts script = first_report w caps g texts script
+report_of Session w caps g texts script = session_report w caps g texts script
 
 -- the status and the text for words, where these are the bytes of the program, of the input and of the script
 pub data Answers (words : Words) (program input script : List ℕ) (status : ℕ) (text : List ℕ) : Type 0 where
@@ -77,7 +76,7 @@ pub record WrotePart (files : Files) (words : Words) (told before now : Option (
 
 -- what a session answers to lines
 abbrev pub answers_of : World → Caps → Grid → Texts → Answer
-answers_of w caps g texts lines = replies_by w (first_step w caps) lines (begun g texts)
+answers_of w caps g texts lines = replies w caps lines (begun g texts)
 
 -- a session was held over the program and the input, and this holds of its answers
 pub record Held (files : Files) (words : Words) (is : Answer → Type 0) : Type 0 where

@@ -15,7 +15,7 @@ use Rattle.psac_model.specs.declared.ends.Shown.{Shown}
 use Rattle.psac_model.specs.Fresh.{World}
 use Rattle.psac_report.specs.Script.{Command, Commit, command_of}
 use Rattle.psac_report.specs.Session.{State, shown_now}
-use Rattle.psac_report.specs.First.{Step, is_quit, quits as quits_, replies_by}
+use Rattle.psac_report.specs.Steps.{Step, is_quit, quits as quits_, replies_by}
 use Rattle.psac_session.specs.Answered.{Answer, AnsweredLong, AnsweredTo, AnsweredWhole, IsScript, ReadOut}
 use Rattle.psac_session.specs.Attended.{Attended, AttendedPart, Foretold, Hearing}
 use Rattle.psac_session.specs.Heard.{Heard, IsNext, Outward, Shows, commits, heard_by, heard_where, is_commit, shows_after}

@@ -1,3 +1,7 @@
+pub mod Holding
+pub mod Goes
+pub mod Reading
+pub mod Placing
 pub mod Stepped
 pub mod Replies
 pub mod Adding

@@ -3,7 +3,7 @@ use Rattle.std.proofs.Common.{◌≡◌, ℕ, true, false, List, [], ◌∷◌, 
 use Rattle.psac_model.specs.Fresh.{World}
 use Rattle.psac_report.specs.Script.{Command, Quit, command_of}
 use Rattle.psac_report.specs.Session.{State}
-use Rattle.psac_report.specs.First.{Step, answered_by, is_quit, quits, replies_by}
+use Rattle.psac_report.specs.Steps.{Step, answered_by, is_quit, quits, replies_by}
 use Rattle.psac_session.specs.Heard.{Shows, heard_by, shows_after, shows_by}
 use Rattle.psac_session.specs.Turned.{text_of}
 

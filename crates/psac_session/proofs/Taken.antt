@@ -10,14 +10,17 @@ use Rattle.psac_model.specs.Names.{Name, Heap}
 use Rattle.psac_model.specs.Outputs.{outputs_from}
 use Rattle.psac_model.specs.Run.{Ran}
 use Rattle.psac_report.specs.Script.{command_of}
-use Rattle.psac_report.specs.Session.{State, shown_now}
-use Rattle.psac_report.specs.First.{Step, first_step}
+use Rattle.psac_report.specs.Session.{State, shown_now, step_of}
+use Rattle.psac_report.specs.Steps.{Step}
 use Rattle.psac_engine.specs.declared.engine.Engine.{Engine}
 use Rattle.psac_engine.specs.Engine.{grid_in, kept_in, world_in}
+use Rattle.psac_engine.specs.Held.{AreNamed, HandlesGo, nothing_dropped}
 use Rattle.psac_session.specs.declared.desk.Desk.{Desk}
 use Rattle.psac_session.specs.Heard.{Adds, Heard, IsNext, Outward, Shows, heard_by, heard_where, is_commit, shown_in}
-use Rattle.psac_session.specs.State.{kept_of, state_in}
+use Rattle.psac_session.specs.Handles.{AreHeld, state_in}
+use Rattle.psac_session.specs.State.{kept_of}
 use Rattle.psac_session.specs.Turned.{BrokeOff, IsExpected, TookLine, text_of}
+use Rattle.psac_session.proofs.Goes.{state_goes}
 use Rattle.psac_session.proofs.Told.{Told}
 
 shown_kept : (w : World) (kept : Option (Ran Name Heap)) → option_map (λ r. outputs_from r.heap 0 w.main.dests) kept
@@ -33,8 +36,9 @@ shown_by v w kept same = rw same (shown_kept w kept)
 pub shown_is : (w : World) (e : Engine) (d : Desk) (texts : Texts) → world_in e ≡ w → shown_in e ≡ shown_now w (state_in e d texts)
 shown_is w e d texts same = shown_by (world_in e) w (kept_in e) same
 
-pub state_same : (e e' : Engine) (d : Desk) (texts : Texts) → kept_in e' ≡ kept_in e → grid_in e' ≡ grid_in e → state_in e' d texts ≡ state_in e d texts
-state_same e e' d texts kept grid = rw (kept, grid) refl
+pub state_same : (e e' : Engine) (d : Desk) (texts : Texts) → kept_in e' ≡ kept_in e → grid_in e' ≡ grid_in e → HandlesGo e e' nothing_dropped → AreNamed e' → AreHeld e d.places.held
+    → state_in e' d texts ≡ state_in e d texts
+state_same e e' d texts kept grid go are known = state_goes e e' d.batch texts d.places.held kept grid go are known
 
 pub expected_now : (w : World) (step : Step) (s s' : State) (line out : List ℕ) (told : Bool) (course heard : Option Shows) (shown : Option (List Shown))
     → Told w step s s' line out told → shown ≡ shown_now w s' → IsExpected w step s line course heard → told ≡ true → IfSome course (λ all. IsNext all heard shown)
@@ -67,15 +71,15 @@ broke_off w step s s' line out told shown before now is same wrote heard = recor
 
 -- the same at worlds, caps and lines that are equal
 pub took_at : (v w : World) (caps most : Caps) (s s' : State) (line text : List ℕ) (before now : Outward) → v ≡ w → caps ≡ most → line ≡ text
-    → TookLine v (first_step v caps) s s' line before now → TookLine w (first_step w most) s s' text before now
+    → TookLine v (step_of v caps) s s' line before now → TookLine w (step_of w most) s s' text before now
 took_at v w caps most s s' line text before now same_world same_caps same_line is = rw (same_world, same_caps, same_line) at is
 
 pub broke_at : (v w : World) (caps most : Caps) (s : State) (line text : List ℕ) (before now : Outward) → v ≡ w → caps ≡ most → line ≡ text
-    → BrokeOff v (first_step v caps) s line before now → BrokeOff w (first_step w most) s text before now
+    → BrokeOff v (step_of v caps) s line before now → BrokeOff w (step_of w most) s text before now
 broke_at v w caps most s line text before now same_world same_caps same_line is = rw (same_world, same_caps, same_line) at is
 
 pub expected_at : (v w : World) (caps most : Caps) (s : State) (line text : List ℕ) (course told heard : Option Shows) → v ≡ w → caps ≡ most → line ≡ text → course ≡ told
-    → IsExpected w (first_step w most) s text told heard → IsExpected v (first_step v caps) s line course heard
+    → IsExpected w (step_of w most) s text told heard → IsExpected v (step_of v caps) s line course heard
 expected_at v w caps most s line text course told heard same_world same_caps same_line same is = rw (same_world, same_caps, same_line, same) is
 
 -- what was written and heard, by the state behind it

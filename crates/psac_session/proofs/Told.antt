@@ -6,7 +6,7 @@ use Rattle.psac_base.specs.Lines.{GivesLine}
 use Rattle.psac_model.specs.Fresh.{World}
 use Rattle.psac_report.specs.Script.{command_of}
 use Rattle.psac_report.specs.Session.{Reply, State}
-use Rattle.psac_report.specs.First.{Step, is_quit}
+use Rattle.psac_report.specs.Steps.{Step, is_quit}
 use Rattle.psac_session.specs.Carried.{IsCarried, IsCarriedBy}
 use Rattle.psac_session.specs.Heard.{is_commit}
 use Rattle.psac_session.specs.Turned.{text_of}

@@ -11,7 +11,7 @@ use Rattle.psac_base.proofs.Splits.{last_is_last, whole_is_next}
 use Rattle.psac_model.specs.Fresh.{World}
 use Rattle.psac_report.specs.Script.{command_of}
 use Rattle.psac_report.specs.Session.{State, shown_now}
-use Rattle.psac_report.specs.First.{Step, is_quit, replies_by}
+use Rattle.psac_report.specs.Steps.{Step, is_quit, replies_by}
 use Rattle.psac_session.specs.Heard.{Adds, Outward, Shows, commits, heard_by, shows_after}
 use Rattle.psac_session.specs.Turned.{text_of}
 use Rattle.psac_session.proofs.Adding.{adds_more, adds_none, one_heard}

@@ -5,7 +5,8 @@ use Rattle.std.specs.Io.KnownBytes.{Consumes, IsAtEnd}
 use Rattle.psac_base.specs.Feeds.{NoFeed, lines_of}
 use Rattle.psac_base.specs.Outside.{Appended, AppendedPart}
 use Rattle.psac_inputs.specs.Texts.{Texts}
-use Rattle.psac_report.specs.First.{first_step, is_quit, replies_by}
+use Rattle.psac_report.specs.Steps.{is_quit, replies_by}
+use Rattle.psac_report.specs.Session.{step_of}
 use Rattle.psac_engine.specs.declared.engine.Engine.{Engine}
 use Rattle.psac_engine.specs.Engine.{caps_in, world_in}
 use Rattle.psac_session.specs.State.{opening}
@@ -20,7 +21,7 @@ Answer = List (List ℕ) → List ℕ
 
 -- what a session over an engine and a list of texts answers to the lines of a script
 abbrev pub answer_of : Engine → Texts → Answer
-answer_of e texts lines = replies_by (world_in e) (first_step (world_in e) (caps_in e)) lines (opening e texts)
+answer_of e texts lines = replies_by (world_in e) (step_of (world_in e) (caps_in e)) lines (opening e texts)
 
 -- where a script is told, these are its bytes
 abbrev pub IsScript : Option (List ℕ) → List ℕ → Type 0

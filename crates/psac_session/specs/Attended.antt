@@ -3,7 +3,7 @@ use Rattle.std.specs.Prelude.{◌≡◌, ℕ, ◌≤◌, List, ◌++◌, length,
 use Rattle.psac_base.specs.Feeds.{lines_of}
 use Rattle.psac_base.specs.Outside.{AppendedPart}
 use Rattle.psac_inputs.specs.Texts.{Texts}
-use Rattle.psac_report.specs.First.{first_step}
+use Rattle.psac_report.specs.Session.{step_of}
 use Rattle.psac_engine.specs.declared.engine.Engine.{Engine}
 use Rattle.psac_engine.specs.Engine.{caps_in, world_in}
 use Rattle.psac_session.specs.Answered.{Answer, IsScript}
@@ -16,7 +16,7 @@ Hearing = List (List ℕ) → Shows
 
 -- what is heard of a session over an engine and a list of texts
 abbrev pub hearing_of : Engine → Texts → Hearing
-hearing_of e texts lines = shows_after (world_in e) (first_step (world_in e) (caps_in e)) lines (opening e texts)
+hearing_of e texts lines = shows_after (world_in e) (step_of (world_in e) (caps_in e)) lines (opening e texts)
 
 -- the whole report was written, and all commits of that script were heard, in order
 pub record Attended (answer : Answer) (hearing : Hearing) (left : Option (List ℕ)) (before now : Outward) : Type 0 where

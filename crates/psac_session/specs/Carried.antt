@@ -3,7 +3,7 @@ use Rattle.std.specs.Prelude.{◌≡◌, Bool, true, false, Option}
 use Rattle.psac_model.specs.Fresh.{World}
 use Rattle.psac_report.specs.Script.{Command}
 use Rattle.psac_report.specs.Session.{State, Reply, reply_text}
-use Rattle.psac_report.specs.First.{quits}
+use Rattle.psac_report.specs.Steps.{quits}
 use Rattle.psac_session.specs.Heard.{commits}
 use Rattle.psac_session.specs.declared.desk.Carried.{Carried}
 use Rattle.psac_session.specs.declared.desk.Carried.TheVariants as carried

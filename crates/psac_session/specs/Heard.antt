@@ -6,7 +6,7 @@ use Rattle.psac_model.specs.Fresh.{World}
 use Rattle.psac_model.specs.Outputs.{outputs_from}
 use Rattle.psac_report.specs.Script.{Command, Commit, Quit, command_of}
 use Rattle.psac_report.specs.Session.{State, shown_now}
-use Rattle.psac_report.specs.First.{Step}
+use Rattle.psac_report.specs.Steps.{Step}
 use Rattle.psac_engine.specs.declared.engine.Engine.{Engine}
 use Rattle.psac_engine.specs.Engine.{kept_in, world_in}
 use Rattle.psac_engine.specs.Commit.{most_commits}

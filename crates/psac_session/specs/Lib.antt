@@ -1,4 +1,7 @@
+pub mod Holding
+pub mod Read
 pub mod State
+pub mod Handles
 pub mod Replied
 pub mod Heard
 pub mod Carried

@@ -4,7 +4,7 @@ use Rattle.psac_base.specs.Outside.{AppendedPart}
 use Rattle.psac_model.specs.Fresh.{World}
 use Rattle.psac_report.specs.Script.{command_of}
 use Rattle.psac_report.specs.Session.{State, Reply, reply_text, shown_now}
-use Rattle.psac_report.specs.First.{Step, is_quit}
+use Rattle.psac_report.specs.Steps.{Step, is_quit}
 use Rattle.psac_session.specs.Heard.{Adds, Heard, IsNext, Outward, Shows, heard_by, is_commit}
 
 -- the text of a reply

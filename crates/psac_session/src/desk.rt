@@ -1,11 +1,12 @@
-// What is staged, and what a line of a script does.
+// What is staged and what is held, and what a line of a script does.
 ghost use Rattle.std.specs.Prelude.{◌≡◌, ◌+◌, ◌≤◌, ◌<◌, Some, IfOk, OnOk, option_map};
 ghost use Rattle.psac_inputs.specs.Grid.{has_cell};
 ghost use Rattle.psac_inputs.specs.Batch.{empty_batch, put_all, GoesInto};
 ghost use Rattle.psac_inputs.specs.Texts.{Texts};
 ghost use Rattle.psac_report.specs.Script.{command_of};
-ghost use Rattle.psac_report.specs.Session.{committed, rows_step, set_step};
-ghost use Rattle.psac_report.specs.First.{first_step, quits};
+ghost use Rattle.psac_report.specs.Script as script;
+ghost use Rattle.psac_report.specs.Session.{committed, rows_step, set_step, step_of};
+ghost use Rattle.psac_report.specs.Steps.{quits};
 ghost use Rattle.psac_script.specs.Commands.{command_view};
 ghost use Rattle.psac_script.specs.Replies.{reply_view};
 ghost use Rattle.psac_engine.specs.Commit.{most_commits};
@@ -13,6 +14,8 @@ ghost use Rattle.psac_engine.specs.Engine.{caps_in, commits_in, grid_in, world_i
 ghost use Rattle.psac_session.specs.Heard.{commits};
 ghost use Rattle.psac_session.specs.Replied.{IsReplyTo};
 
+use crate::hold::{Part, held_reply, hold_out, hold_part};
+use crate::places::Places;
 use crate::show::{shown_reply, sized_reply};
 use psac_base::NoMemory;
 use psac_engine::{Answer, Engine};
@@ -27,6 +30,7 @@ use std::thread::Threads;
 #[derive(Drop)]
 pub struct Desk {
     pub batch: Batch,
+    pub places: Places,
 }
 
 /// What a line came to.
@@ -71,16 +75,21 @@ fn is_commit(command: &Option<Command<'_>>) -> bool
 }
 
 impl Desk {
-    ghost use Rattle.psac_session.specs.State.{state_in};
+    ghost use Rattle.psac_session.specs.Handles.{AreHeld, state_in};
     ghost use Rattle.psac_session.specs.Carried.{IsCarried};
+    ghost use Rattle.psac_session.specs.Holding.{none_held};
 
-    /// Nothing is staged.
+    /// Nothing is staged, and nothing is held.
     pub fn new(alloc: Global, engine: &Engine) -> Result<Desk, NoMemory>
         ensures empty { IfOk result (λ d. d.batch ≡ empty_batch (grid_in engine.now)) }
         ensures goes { IfOk result (λ d. GoesInto d.batch (grid_in engine.now)) }
+        ensures none { IfOk result (λ d. d.places.held ≡ none_held) }
+        ensures held { IfOk result (λ d. AreHeld engine.now d.places.held) }
     {
+        engine.handles();
         Ok(Desk {
             batch: Batch::new(alloc, engine.grid())?,
+            places: Places::new(),
         })
     }
 
@@ -104,6 +113,7 @@ impl Desk {
         ensures step { IfOk result (λ reply.
             set_step row col field.now (state_in engine.now self.old texts.old) ≡ (state_in engine.now self.new texts.new, reply_view reply)) }
         ensures goes { OnOk result (GoesInto self.new.batch (grid_in engine.now)) }
+        ensures held { self.new.places ≡ self.old.places }
     {
         if !self.has_cell(engine, row, col) {
             return Ok(Reply::RefusedRange);
@@ -125,6 +135,7 @@ impl Desk {
         ensures step { IfOk result (λ reply. (texts : Texts)
             → rows_step count (state_in engine.now self.old texts) ≡ (state_in engine.now self.new texts, reply_view reply)) }
         ensures goes { OnOk result (GoesInto self.new.batch (grid_in engine.now)) }
+        ensures held { self.new.places ≡ self.old.places }
     {
         if count > engine.grid().room() {
             return Ok(Reply::RefusedRange);
@@ -145,14 +156,35 @@ impl Desk {
     ) -> Result<Reply, NoMemory>
         requires goes { GoesInto self.old.batch (grid_in engine.old) }
         requires few { commits_in engine.old < most_commits }
+        requires held { AreHeld engine.old self.old.places.held }
         ensures step { IfOk result (λ reply. (texts : Texts)
             → committed (world_in engine.old) (caps_in engine.old) (state_in engine.old self.old texts) ≡ (state_in engine.new self.new texts, reply_view reply)) }
         ensures goes { GoesInto self.new.batch (grid_in engine.new) }
+        ensures held { AreHeld engine.new self.new.places.held }
         ensures commits { commits_in engine.new ≡ commits_in engine.old + 1 }
         ensures world { world_in engine.new ≡ world_in engine.old }
         ensures caps { caps_in engine.new ≡ caps_in engine.old }
     {
-        reply_to(engine.commit(rt, &mut self.batch, crew, gate))
+        let answer = engine.commit(rt, &mut self.batch, crew, gate);
+        engine.handles();
+        reply_to(answer)
+    }
+
+    // Shows the outputs.
+    fn show(&self, engine: &mut Engine) -> Result<Reply, NoMemory>
+        requires { AreHeld engine.old self.now.places.held }
+        ensures step { IfOk result (λ reply. (texts : Texts)
+            → step_of (world_in engine.old) (caps_in engine.old) (state_in engine.old self.now texts) (Some script.Show)
+            ≡ (state_in engine.new self.now texts, reply_view reply)) }
+        ensures held { AreHeld engine.new self.now.places.held }
+        ensures grid { grid_in engine.new ≡ grid_in engine.old }
+        ensures commits { commits_in engine.new ≡ commits_in engine.old }
+        ensures world { world_in engine.new ≡ world_in engine.old }
+        ensures caps { caps_in engine.new ≡ caps_in engine.old }
+    {
+        let reply = shown_reply(engine);
+        engine.handles();
+        reply
     }
 
     // Carries out a command.
@@ -168,10 +200,12 @@ impl Desk {
     ) -> Result<Reply, NoMemory>
         requires goes { GoesInto self.old.batch (grid_in engine.old) }
         requires few { commits_in engine.old < most_commits }
+        requires held { AreHeld engine.old self.old.places.held }
         ensures step { IfOk result (λ reply.
-            first_step (world_in engine.old) (caps_in engine.old) (state_in engine.old self.old texts.old) (Some (command_view command.entry))
+            step_of (world_in engine.old) (caps_in engine.old) (state_in engine.old self.old texts.old) (Some (command_view command.entry))
             ≡ (state_in engine.new self.new texts.new, reply_view reply)) }
         ensures goes { OnOk result (GoesInto self.new.batch (grid_in engine.new)) }
+        ensures held { OnOk result (AreHeld engine.new self.new.places.held) }
         ensures commits { commits_in engine.new ≤ commits_in engine.old + 1 }
         ensures world { world_in engine.new ≡ world_in engine.old }
         ensures caps { caps_in engine.new ≡ caps_in engine.old }
@@ -181,14 +215,21 @@ impl Desk {
             Command::Set { row, col, field } => self.set(engine, texts, row, col, field),
             Command::Rows { count } => self.rows(engine, count),
             Command::Commit => self.commit(rt, engine, crew, gate),
-            Command::Show => shown_reply(engine),
+            Command::Show => self.show(engine),
             Command::Tree => Ok(sized_reply(engine)),
-            // What holds a modifiable isn't there yet.
-            Command::HoldOut { .. } => Ok(Reply::RefusedForm),
-            Command::HoldRef { .. } => Ok(Reply::RefusedForm),
-            Command::HoldFst { .. } => Ok(Reply::RefusedForm),
-            Command::HoldSnd { .. } => Ok(Reply::RefusedForm),
-            Command::Held { .. } => Ok(Reply::RefusedForm),
+            Command::HoldOut { place, out } => {
+                Ok(hold_out(engine, &mut self.places, place, out))
+            }
+            Command::HoldRef { place, source } => {
+                Ok(hold_part(engine, &mut self.places, place, source, Part::Referred))
+            }
+            Command::HoldFst { place, source } => {
+                Ok(hold_part(engine, &mut self.places, place, source, Part::First))
+            }
+            Command::HoldSnd { place, source } => {
+                Ok(hold_part(engine, &mut self.places, place, source, Part::Second))
+            }
+            Command::Held { place } => Ok(held_reply(engine, &self.places, place)),
             Command::Quit => Ok(Reply::Nothing),
         }
     }
@@ -206,10 +247,12 @@ impl Desk {
     ) -> Result<Reply, NoMemory>
         requires goes { GoesInto self.old.batch (grid_in engine.old) }
         requires few { commits_in engine.old < most_commits }
+        requires held { AreHeld engine.old self.old.places.held }
         ensures step { IfOk result (λ reply.
-            first_step (world_in engine.old) (caps_in engine.old) (state_in engine.old self.old texts.old) (option_map command_view command.entry)
+            step_of (world_in engine.old) (caps_in engine.old) (state_in engine.old self.old texts.old) (option_map command_view command.entry)
             ≡ (state_in engine.new self.new texts.new, reply_view reply)) }
         ensures goes { OnOk result (GoesInto self.new.batch (grid_in engine.new)) }
+        ensures held { OnOk result (AreHeld engine.new self.new.places.held) }
         ensures commits { commits_in engine.new ≤ commits_in engine.old + 1 }
         ensures world { world_in engine.new ≡ world_in engine.old }
         ensures caps { caps_in engine.new ≡ caps_in engine.old }
@@ -233,10 +276,12 @@ impl Desk {
     ) -> Result<Carried, NoMemory>
         requires goes { GoesInto self.old.batch (grid_in engine.old) }
         requires few { commits_in engine.old < most_commits }
+        requires held { AreHeld engine.old self.old.places.held }
         ensures carried { IfOk result (IsCarried (world_in engine.old) (command_of line.now)
-            (first_step (world_in engine.old) (caps_in engine.old) (state_in engine.old self.old texts.old) (command_of line.now))
+            (step_of (world_in engine.old) (caps_in engine.old) (state_in engine.old self.old texts.old) (command_of line.now))
             (state_in engine.new self.new texts.new)) }
         ensures goes { OnOk result (GoesInto self.new.batch (grid_in engine.new)) }
+        ensures held { OnOk result (AreHeld engine.new self.new.places.held) }
         ensures commits { commits_in engine.new ≤ commits_in engine.old + 1 }
         ensures world { world_in engine.new ≡ world_in engine.old }
         ensures caps { caps_in engine.new ≡ caps_in engine.old }

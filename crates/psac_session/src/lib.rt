@@ -4,8 +4,10 @@
 mod desk;
 mod end;
 mod first;
+mod hold;
 mod line;
 mod listener;
+mod places;
 mod show;
 mod turns;
 

@@ -2,11 +2,13 @@
 ghost use Rattle.std.specs.Prelude.{◌≡◌, ◌≤◌, ◌+◌, ◌<◌, true, IfSome, OnOk, OnErr};
 ghost use Rattle.psac_base.specs.Causes.{Rose};
 ghost use Rattle.psac_inputs.specs.Batch.{GoesInto};
-ghost use Rattle.psac_report.specs.First.{first_step, is_quit};
+ghost use Rattle.psac_report.specs.Steps.{is_quit};
+ghost use Rattle.psac_report.specs.Session.{step_of};
 ghost use Rattle.psac_engine.specs.Commit.{most_commits};
 ghost use Rattle.psac_engine.specs.Engine.{caps_in, commits_in, grid_in, kept_in, world_in};
+ghost use Rattle.psac_engine.specs.Held.{HandlesGo, nothing_dropped};
 ghost use Rattle.psac_session.specs.Heard.{HasRoom, Heard, IsNext, heard_where, shown_in};
-ghost use Rattle.psac_session.specs.State.{state_in};
+ghost use Rattle.psac_session.specs.Handles.{AreHeld, state_in};
 ghost use Rattle.psac_session.specs.Turned.{BrokeOff, IsExpected, TookLine};
 
 use crate::desk::{Carried, Desk};
@@ -41,6 +43,7 @@ fn hear_where<Rt, L: Listener<Rt>>(
     ensures heard { OnOk result (Heard (L.heard listener.old) (L.heard listener.new) (heard_where commits (shown_in engine.old))) }
     ensures refused { OnErr result (L.heard listener.new ≡ L.heard listener.old) }
     ensures course { L.course listener.new ≡ L.course listener.old }
+    ensures handles { HandlesGo engine.old engine.new nothing_dropped }
     ensures kept { kept_in engine.new ≡ kept_in engine.old }
     ensures grid { grid_in engine.new ≡ grid_in engine.old }
     ensures commits { commits_in engine.new ≡ commits_in engine.old }
@@ -68,20 +71,22 @@ pub fn take_line<Rt: Threads + Sync, K: Sink, G: Gate + Sync, L: Listener<Rt>>(
 ) -> Turn
     requires goes { GoesInto desk.old.batch (grid_in engine.old) }
     requires few { commits_in engine.old < most_commits }
+    requires held { AreHeld engine.old desk.old.places.held }
     requires room { HasRoom (L.heard listener.old) }
-    requires expected { IsExpected (world_in engine.old) (first_step (world_in engine.old) (caps_in engine.old)) (state_in engine.old desk.old texts.old)
+    requires expected { IsExpected (world_in engine.old) (step_of (world_in engine.old) (caps_in engine.old)) (state_in engine.old desk.old texts.old)
         line.now (L.course listener.old) (L.heard listener.old) }
-    ensures on { result ≡ Turn.On → TookLine (world_in engine.old) (first_step (world_in engine.old) (caps_in engine.old))
+    ensures on { result ≡ Turn.On → TookLine (world_in engine.old) (step_of (world_in engine.old) (caps_in engine.old))
         (state_in engine.old desk.old texts.old) (state_in engine.new desk.new texts.new) line.now
         (K.held out.old, L.heard listener.old) (K.held out.new, L.heard listener.new) }
     ensures quit { result ≡ Turn.Quit → (is_quit line.now ≡ true) × (K.held out.new ≡ K.held out.old) × (L.heard listener.new ≡ L.heard listener.old) }
-    ensures part { result ≡ Turn.SinkFailed → BrokeOff (world_in engine.old) (first_step (world_in engine.old) (caps_in engine.old))
+    ensures part { result ≡ Turn.SinkFailed → BrokeOff (world_in engine.old) (step_of (world_in engine.old) (caps_in engine.old))
         (state_in engine.old desk.old texts.old) line.now
         (K.held out.old, L.heard listener.old) (K.held out.new, L.heard listener.new) }
     ensures memory { result ≡ Turn.NoMemory → (K.held out.new ≡ K.held out.old) × (L.heard listener.new ≡ L.heard listener.old) }
     ensures sink { result ≡ Turn.SinkFailed → Rose (K.faults out.old) (K.faults out.new) }
     ensures later { K.faults out.old ≤ K.faults out.new }
     ensures goes { result ≡ Turn.On → GoesInto desk.new.batch (grid_in engine.new) }
+    ensures held { result ≡ Turn.On → AreHeld engine.new desk.new.places.held }
     ensures commits { commits_in engine.new ≤ commits_in engine.old + 1 }
     ensures course { L.course listener.new ≡ L.course listener.old }
     ensures world { world_in engine.new ≡ world_in engine.old }
@@ -95,6 +100,7 @@ pub fn take_line<Rt: Threads + Sync, K: Sink, G: Gate + Sync, L: Listener<Rt>>(
     if hear_where(rt, engine, listener, commits).is_err() {
         return Turn::NoMemory;
     }
+    engine.handles();
     match write_whole(out, &text) {
         Ok(()) => Turn::On,
         Err(_) => Turn::SinkFailed,

@@ -1,6 +1,7 @@
 // Who hears of the commits of a session.
 ghost use Rattle.std.specs.Prelude.{◌≡◌, [], ◌∷◌, None, Option, IfSome, OnOk, OnErr};
 ghost use Rattle.psac_engine.specs.Engine.{caps_in, commits_in, grid_in, kept_in, world_in};
+ghost use Rattle.psac_engine.specs.Held.{HandlesGo, nothing_dropped};
 ghost use Rattle.psac_session.specs.Heard.{HasRoom, Heard, IsNext, Shows, shown_in};
 
 use psac_base::NoMemory;
@@ -21,6 +22,7 @@ pub trait Listener<Rt> {
         ensures heard { OnOk result (Heard (heard self.old) (heard self.new) (shown_in engine.old ∷ [])) }
         ensures refused { OnErr result (heard self.new ≡ heard self.old) }
         ensures course { course self.new ≡ course self.old }
+        ensures handles { HandlesGo engine.old engine.new nothing_dropped }
         ensures kept { kept_in engine.new ≡ kept_in engine.old }
         ensures grid { grid_in engine.new ≡ grid_in engine.old }
         ensures commits { commits_in engine.new ≡ commits_in engine.old }

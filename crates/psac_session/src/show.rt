@@ -4,6 +4,7 @@ ghost use Rattle.psac_model.specs.Outputs.{outputs_from};
 ghost use Rattle.psac_report.specs.Session.{outputs_reply, shown_tree};
 ghost use Rattle.psac_script.specs.Replies.{reply_view};
 ghost use Rattle.psac_engine.specs.Engine.{caps_in, commits_in, grid_in, kept_in, world_in};
+ghost use Rattle.psac_engine.specs.Held.{HandlesGo, nothing_dropped};
 ghost use Rattle.psac_session.specs.State.{kept_of};
 
 use psac_base::NoMemory;
@@ -14,6 +15,7 @@ use psac_script::Reply;
 pub fn shown_reply(engine: &mut Engine) -> Result<Reply, NoMemory>
     ensures shown { IfOk result (λ reply. reply_view reply
         ≡ outputs_reply (option_map (λ r. outputs_from r.heap 0 (world_in engine.old).main.dests) (kept_in engine.old))) }
+    ensures handles { HandlesGo engine.old engine.new nothing_dropped }
     ensures kept { kept_in engine.new ≡ kept_in engine.old }
     ensures grid { grid_in engine.new ≡ grid_in engine.old }
     ensures commits { commits_in engine.new ≡ commits_in engine.old }

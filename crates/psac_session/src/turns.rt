@@ -18,8 +18,6 @@ use std::thread::Threads;
 
 /// Carries out a script, line by line, up to `quit` or its end. The listener hears of each commit, and then the reply is
 /// written. A reply that isn't empty is written as one piece, before the next line is read.
-///
-/// In this first form `hold` and `held` are refused as no commands.
 pub fn session_with<Rt: Threads + Sync, S: Source, K: Sink, G: Gate + Sync, L: Listener<Rt>>(
     rt: &Rt,
     alloc: Global,
@@ -47,8 +45,9 @@ pub fn session_with<Rt: Threads + Sync, S: Source, K: Sink, G: Gate + Sync, L: L
     ensures source { result ≡ SessionEnd.SourceFailed → Rose (S.faults script.old) (S.faults script.new) }
     ensures broken { result ≡ SessionEnd.SourceFailed
         → AnsweredWhole (answer_of engine.old texts.old) (S.left script.old) (S.left script.new) (K.held out.old) (K.held out.new) }
-    // A write failed.
+    // A write failed. The count of such faults never falls.
     ensures sink { result ≡ SessionEnd.SinkFailed → Rose (K.faults out.old) (K.faults out.new) }
+    ensures later { K.faults out.old ≤ K.faults out.new }
     // Too much was read, exactly there. At least the lines that end before the last piece were answered, and none of
     // those that were is `quit`.
     ensures long { (result ≡ SessionEnd.TooLong) ↔ (S.taken script.new ≡ S.taken script.old + 16777217) }
@@ -82,8 +81,6 @@ pub fn session_with<Rt: Threads + Sync, S: Source, K: Sink, G: Gate + Sync, L: L
 
 /// Carries out a script, line by line, up to `quit` or its end. A reply that isn't empty is written as one piece,
 /// before the next line is read. Nobody hears of it.
-///
-/// In this first form `hold` and `held` are refused as no commands.
 pub fn session<Rt: Threads + Sync, S: Source, K: Sink, G: Gate + Sync>(
     rt: &Rt,
     alloc: Global,

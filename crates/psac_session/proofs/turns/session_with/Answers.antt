@@ -1,13 +1,15 @@
 use Rattle.std.proofs.Common.{◌≡◌, ◌<◌, length, arith, rules, inl, sym, ◌∙◌, ap, refl, subst, true, false}
 use Rattle.psac_base.specs.Lines.{bytes_of, given_of, has_ended, is_live}
-use Rattle.psac_inputs.specs.Batch.{Batch}
 use Rattle.psac_report.specs.Script.{command_of}
-use Rattle.psac_report.specs.First.{first_step, is_quit}
+use Rattle.psac_report.specs.Steps.{is_quit}
+use Rattle.psac_report.specs.Session.{step_of}
 use Rattle.psac_engine.specs.Engine.{caps_in, world_in}
 use Rattle.psac_session.specs.Heard.{Outward}
-use Rattle.psac_session.specs.State.{opening, state_in, state_with}
+use Rattle.psac_session.specs.Handles.{state_in}
+use Rattle.psac_session.specs.State.{opening}
 use Rattle.psac_session.specs.Turned.{text_of}
 use Rattle.psac_session.proofs.Adding.{room_left}
+use Rattle.psac_session.proofs.Goes.{state_begins}
 use Rattle.psac_session.proofs.Taken.{adds_at, broke_at, expected_at, took_at}
 use Rattle.psac_session.proofs.Told.{given_more, rose_since, smaller}
 use Rattle.psac_session.proofs.Turn.{Going, begins, counted, end_noted, not_ended, not_over, still_going, took_all, turn}
@@ -24,7 +26,7 @@ pub turns-init : goal.turns-init
 turns-init g c =
     let e = c.args.engine.now in
     let w = world_in e in
-    let step = first_step w (caps_in e) in
+    let step = step_of w (caps_in e) in
     let start = opening e c.args.texts.now in
     let begun : Outward = (g.K.Sink.held c.args.out.now, g.L.Listener.heard c.args.listener.now) in
     let bytes = bytes_of c.in-Ok.lines in
@@ -32,7 +34,7 @@ turns-init g c =
     record {
       live = c.in-Ok.ensures.live;
       state = inl
-          (subst (λ (b : Batch). Going w step start bytes given (state_with e b c.args.texts.now) begun begun) (sym c.in-Ok-new.ensures.empty)
+          (subst (λ s. Going w step start bytes given s begun begun) (sym (state_begins e c.in-Ok-new.desk c.args.texts.now c.in-Ok-new.ensures.empty c.in-Ok-new.ensures.none))
           (begins w step start bytes given begun c.in-Ok.ensures.bytes c.in-Ok.ensures.given));
       source = consumes_nil _ bytes c.in-Ok.ensures.bytes;
       count = omega (arith, ap length c.in-Ok.ensures.bytes);
@@ -42,6 +44,7 @@ turns-init g c =
       few = omega arith;
       course = refl;
       goes = c.in-Ok-new.ensures.goes;
+      held = c.in-Ok-new.ensures.held;
       world = refl;
       caps = refl;
     }
@@ -50,7 +53,7 @@ pub take_line-requires-clause-room : goal.take_line-requires-clause-room
 take_line-requires-clause-room g c = λ _ _.
     let e = c.args.engine.now in
     let w = world_in e in
-    let step = first_step w (caps_in e) in
+    let step = step_of w (caps_in e) in
     let start = opening e c.args.texts.now in
     let i = c.turns.invariant in
     let n = c.in-Ok-true.ensures in
@@ -66,7 +69,7 @@ pub take_line-requires-clause-expected : goal.take_line-requires-clause-expected
 take_line-requires-clause-expected g c = λ _ _.
     let e = c.args.engine.now in
     let w = world_in e in
-    let step = first_step w (caps_in e) in
+    let step = step_of w (caps_in e) in
     let start = opening e c.args.texts.now in
     let i = c.turns.invariant in
     let n = c.in-Ok-true.ensures in
@@ -83,7 +86,7 @@ pub returns-in-SinkFailed-clause-part : goal.returns-in-SinkFailed-clause-part
 returns-in-SinkFailed-clause-part g c =
     let e = c.args.engine.now in
     let w = world_in e in
-    let step = first_step w (caps_in e) in
+    let step = step_of w (caps_in e) in
     let start = opening e c.args.texts.now in
     let i = c.turns.invariant in
     let n = c.in-Ok-true.ensures in
@@ -112,7 +115,7 @@ pub turns-preserved : goal.turns-preserved
 turns-preserved g c =
     let e = c.args.engine.now in
     let w = world_in e in
-    let step = first_step w (caps_in e) in
+    let step = step_of w (caps_in e) in
     let start = opening e c.args.texts.now in
     let i = c.turns.invariant in
     let n = c.in-Ok-true.ensures in
@@ -138,6 +141,7 @@ turns-preserved g c =
       few = omega (arith, i.few, c.take_line.ensures.commits, more);
       course = c.take_line.ensures.course ∙ i.course;
       goes = c.in-On.ensures.goes refl;
+      held = c.in-On.ensures.held refl;
       world = c.take_line.ensures.world ∙ i.world;
       caps = c.take_line.ensures.caps ∙ i.caps;
     }
@@ -146,7 +150,7 @@ pub returns-in-Quit-clause-done : goal.returns-in-Quit-clause-done
 returns-in-Quit-clause-done g c = λ _.
     let e = c.args.engine.now in
     let w = world_in e in
-    let step = first_step w (caps_in e) in
+    let step = step_of w (caps_in e) in
     let start = opening e c.args.texts.now in
     let i = c.turns.invariant in
     let n = c.in-Ok-true.ensures in
@@ -164,7 +168,7 @@ pub returns-in-Quit-clause-read : goal.returns-in-Quit-clause-read
 returns-in-Quit-clause-read g c = λ _.
     let e = c.args.engine.now in
     let w = world_in e in
-    let step = first_step w (caps_in e) in
+    let step = step_of w (caps_in e) in
     let start = opening e c.args.texts.now in
     let i = c.turns.invariant in
     let n = c.in-Ok-true.ensures in
@@ -182,7 +186,7 @@ pub returns-in-Quit-clause-part : goal.returns-in-Quit-clause-part
 returns-in-Quit-clause-part g c =
     let e = c.args.engine.now in
     let w = world_in e in
-    let step = first_step w (caps_in e) in
+    let step = step_of w (caps_in e) in
     let start = opening e c.args.texts.now in
     let i = c.turns.invariant in
     let n = c.in-Ok-true.ensures in
@@ -197,7 +201,7 @@ pub returns-in-NoMemory-clause-part : goal.returns-in-NoMemory-clause-part
 returns-in-NoMemory-clause-part g c =
     let e = c.args.engine.now in
     let w = world_in e in
-    let step = first_step w (caps_in e) in
+    let step = step_of w (caps_in e) in
     let start = opening e c.args.texts.now in
     let i = c.turns.invariant in
     let n = c.in-Ok-true.ensures in
@@ -212,7 +216,7 @@ pub returns-in-Ok-false-clause-done : goal.returns-in-Ok-false-clause-done
 returns-in-Ok-false-clause-done g c = λ _.
     let e = c.args.engine.now in
     let w = world_in e in
-    let step = first_step w (caps_in e) in
+    let step = step_of w (caps_in e) in
     let start = opening e c.args.texts.now in
     let i = c.turns.invariant in
     let n = c.in-Ok-false.ensures in
@@ -225,7 +229,7 @@ pub returns-in-Ok-false-clause-read : goal.returns-in-Ok-false-clause-read
 returns-in-Ok-false-clause-read g c = λ _.
     let e = c.args.engine.now in
     let w = world_in e in
-    let step = first_step w (caps_in e) in
+    let step = step_of w (caps_in e) in
     let start = opening e c.args.texts.now in
     let i = c.turns.invariant in
     let n = c.in-Ok-false.ensures in
@@ -238,7 +242,7 @@ pub returns-in-Ok-false-clause-part : goal.returns-in-Ok-false-clause-part
 returns-in-Ok-false-clause-part g c =
     let e = c.args.engine.now in
     let w = world_in e in
-    let step = first_step w (caps_in e) in
+    let step = step_of w (caps_in e) in
     let start = opening e c.args.texts.now in
     let i = c.turns.invariant in
     let n = c.in-Ok-false.ensures in
@@ -251,7 +255,7 @@ pub returns-in-Err-Failed-clause-part : goal.returns-in-Err-Failed-clause-part
 returns-in-Err-Failed-clause-part g c =
     let e = c.args.engine.now in
     let w = world_in e in
-    let step = first_step w (caps_in e) in
+    let step = step_of w (caps_in e) in
     let start = opening e c.args.texts.now in
     let i = c.turns.invariant in
     let n = c.in-Err-Failed.ensures in
@@ -265,7 +269,7 @@ pub returns-in-Err-TooLong-clause-part : goal.returns-in-Err-TooLong-clause-part
 returns-in-Err-TooLong-clause-part g c =
     let e = c.args.engine.now in
     let w = world_in e in
-    let step = first_step w (caps_in e) in
+    let step = step_of w (caps_in e) in
     let start = opening e c.args.texts.now in
     let i = c.turns.invariant in
     let n = c.in-Err-TooLong.ensures in
@@ -279,7 +283,7 @@ pub returns-in-Err-NoMemory-clause-part : goal.returns-in-Err-NoMemory-clause-pa
 returns-in-Err-NoMemory-clause-part g c =
     let e = c.args.engine.now in
     let w = world_in e in
-    let step = first_step w (caps_in e) in
+    let step = step_of w (caps_in e) in
     let start = opening e c.args.texts.now in
     let i = c.turns.invariant in
     let n = c.in-Err-NoMemory.ensures in
@@ -293,7 +297,7 @@ pub returns-in-Err-Failed-clause-broken : goal.returns-in-Err-Failed-clause-brok
 returns-in-Err-Failed-clause-broken g c = λ _.
     let e = c.args.engine.now in
     let w = world_in e in
-    let step = first_step w (caps_in e) in
+    let step = step_of w (caps_in e) in
     let start = opening e c.args.texts.now in
     let i = c.turns.invariant in
     let n = c.in-Err-Failed.ensures in
@@ -307,7 +311,7 @@ pub returns-in-Err-TooLong-clause-much : goal.returns-in-Err-TooLong-clause-much
 returns-in-Err-TooLong-clause-much g c = λ _.
     let e = c.args.engine.now in
     let w = world_in e in
-    let step = first_step w (caps_in e) in
+    let step = step_of w (caps_in e) in
     let start = opening e c.args.texts.now in
     let i = c.turns.invariant in
     let n = c.in-Err-TooLong.ensures in

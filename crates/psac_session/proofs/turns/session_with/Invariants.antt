@@ -2,16 +2,17 @@ use Rattle.std.proofs.Common.{◌≡◌, ◌⊎◌, ◌≤◌, ◌+◌, ◌-◌,
 use Rattle.std.specs.Io.KnownBytes.{Consumes, IsAtEnd}
 use Rattle.psac_base.specs.Lines.{bytes_of, given_of, has_ended, is_live}
 use Rattle.psac_inputs.specs.Batch.{GoesInto}
-use Rattle.psac_report.specs.First.{first_step}
+use Rattle.psac_report.specs.Session.{step_of}
 use Rattle.psac_engine.specs.Engine.{caps_in, commits_in, grid_in, world_in}
-use Rattle.psac_session.specs.State.{opening, state_in}
+use Rattle.psac_session.specs.Handles.{AreHeld, state_in}
+use Rattle.psac_session.specs.State.{opening}
 use Rattle.psac_session.proofs.Turn.{Going, Over}
 use Rattle.psac_session.proofs.turns.session_with.Given as goal
 
 abbrev pub invariant-turns : goal.invariant-turns
 invariant-turns g l =
     let w = world_in l.initial.engine in
-    let step = first_step w (caps_in l.initial.engine) in
+    let step = step_of w (caps_in l.initial.engine) in
     let start = opening l.initial.engine l.initial.texts in
     record {
       live : is_live l.lines ≡ true;
@@ -25,6 +26,7 @@ invariant-turns g l =
       few : commits_in l.engine ≤ commits_in l.initial.engine + given_of l.lines;
       course : g.L.Listener.course l.listener ≡ g.L.Listener.course l.initial.listener;
       goes : GoesInto l.desk.batch (grid_in l.engine);
+      held : AreHeld l.engine l.desk.places.held;
       world : world_in l.engine ≡ world_in l.initial.engine;
       caps : caps_in l.engine ≡ caps_in l.initial.engine;
     }

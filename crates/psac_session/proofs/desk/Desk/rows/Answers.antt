@@ -1,7 +1,7 @@
 use Rattle.std.proofs.Common.{◌∙◌, ap, refl, subst}
 use Rattle.psac_inputs.specs.Grid.{Grid, IsGrid}
 use Rattle.psac_engine.specs.Engine.{grid_in}
-use Rattle.psac_session.specs.State.{state_in}
+use Rattle.psac_session.specs.Handles.{state_in}
 use Rattle.psac_session.proofs.Stepped.{rows_refused, rows_staged}
 use Rattle.psac_session.proofs.desk.Desk.rows.Goals as goal
 
