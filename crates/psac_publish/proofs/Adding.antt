@@ -1,4 +1,4 @@
--- The exchange that adds a value keeps the rule.
+-- The exchange that adds a value keeps the rule, and so does a read.
 use Rattle.std.proofs.Common.{◌≡◌, ℕ, ◌<◌, ◌==◌, Bool, true, false, List, [], ◌∷◌, ◌++◌, length, refl, ap, sym, subst, arith, inl, None}
 use Rattle.std.proofs.lemmas.List.{append-nil}
 use Rattle.std.proofs.lemmas.Bool.Decides.{nat_tests}
@@ -7,7 +7,7 @@ use prog.Atomic.{either}
 use Rattle.logbook.specs.Pages.{Cell, cell, keeps, no_nib, step, Moves, Goes}
 use Rattle.psac_publish.specs.declared.seen.Seen.{Seen}
 use Rattle.psac_publish.specs.History.{IsHistory, IsLast, last_commit}
-use Rattle.psac_publish.specs.Kept.{IsKept, Added}
+use Rattle.psac_publish.specs.Kept.{IsKept, Added, WasRead}
 use Rattle.psac_publish.proofs.Histories.{adds_to, commit_of_last, has_last, is_all, last_added}
 
 abbrev pub shown : List Seen → List Seen
@@ -53,3 +53,27 @@ adds v e s last later cs log kept pre away =
     let P : List Cell → Type 0 = λ c. (0 < length c) × ((cell c 0).1 ≡ true)
     × Goes IsKept shown moved 0 (v, (no_nib, None)) (λ n. either (n == s.commit) e.commit n) (Added (step 0 s.commit e.commit e) (v, (no_nib, None))) c log in
     subst P (sym kept.words) (omega arith, refl, goes log v e s last later kept.history pre (last_commit log == s.commit) refl)
+
+stays : (log v : List Seen) (ask : Seen) → IsHistory log
+    → Goes IsKept shown moved 0 (v, (no_nib, None)) (λ n. n) (WasRead (step 0 0 0 ask) (v, (no_nib, None)))
+    ((last_commit log, true) ∷ (0, true) ∷ []) log
+stays log v ask history =
+    let all : log ++ [] ≡ log = append-nil log in
+    let word : last_commit log ≡ last_commit (log ++ []) = sym (ap last_commit all) in
+    let whole : IsHistory (log ++ []) = subst IsHistory (sym all) history in (
+      keeps,
+      [],
+      None,
+      tt,
+      record { words = ap (λ (n : ℕ). (n, true) ∷ (0, true) ∷ []) word; history = whole },
+      inl (refl, refl),
+      (word, whole),
+    )
+
+-- whatever the history is, a read finds the number of commits of its last value
+pub reads : (v : List Seen) (ask : Seen)
+    → Moves IsKept shown moved 0 (v, (no_nib, None)) (λ n. n) (WasRead (step 0 0 0 ask) (v, (no_nib, None)))
+reads v ask cs log kept pre away =
+    let P : List Cell → Type 0 = λ c. (0 < length c) × ((cell c 0).1 ≡ true)
+    × Goes IsKept shown moved 0 (v, (no_nib, None)) (λ n. n) (WasRead (step 0 0 0 ask) (v, (no_nib, None))) c log in
+    subst P (sym kept.words) (omega arith, refl, stays log v ask kept.history)

@@ -1,5 +1,5 @@
 -- Beginnings of a history are told apart by their numbers of commits.
-use Rattle.std.proofs.Common.{◌≡◌, ℕ, ◌-◌, ◌<◌, ◌≤◌, ◌⊎◌, inl, inr, List, [], ◌∷◌, ◌++◌, length, get_or, Option, Some, slice_get, option_map, unwrap_or, refl, ap, sym, ◌∙◌, arith, length-append}
+use Rattle.std.proofs.Common.{◌≡◌, ℕ, ◌-◌, ◌<◌, ◌≤◌, ◌⊎◌, inl, inr, List, [], ◌∷◌, ◌++◌, length, get_or, Option, Some, slice_get, option_map, unwrap_or, refl, ap, sym, subst, ◌∙◌, arith, length-append}
 use Rattle.std.proofs.lemmas.List.{append-nil}
 use Rattle.std.proofs.lemmas.Option.{slice_get_within, slice_get-get_or}
 use Rattle.std.proofs.Math.Nat.{eq-or-lt_of_le}
@@ -67,6 +67,22 @@ up_to_last log history k s at =
     let within : k < length log = slice_get_within log k s at in
     let value : last_commit log ≡ last.0.commit = commit_of_last last.0 log last.1 in
     below log history k s last.0 at last.1 value (eq-or-lt_of_le (omega arith))
+
+-- no value of a beginning has more commits than the last value of the whole
+pub commits_rise : (xs zs : List Seen) → IsHistory xs → IsHistory zs → IsPrefix xs zs → last_commit xs ≤ last_commit zs
+commits_rise xs zs first history p =
+    let last = has_last xs first in
+    let value : last_commit xs ≡ last.0.commit = commit_of_last last.0 xs last.1 in
+    let up : last.0.commit ≤ last_commit zs = up_to_last zs history (length xs - 1) last.0 (stands xs zs (length xs - 1) last.0 p last.1) in
+    rw value up
+
+-- a beginning whose last value has as many commits as the history is the history, and so it has each other beginning
+pub has_all : (xs ys zs : List Seen) (s : Seen) → IsPrefix xs zs → IsPrefix ys zs → IsHistory zs → IsLast s xs → last_commit zs ≡ s.commit → IsPrefix ys xs
+has_all xs ys zs s p q history last same =
+    let end = has_last zs history in
+    let value : last_commit zs ≡ end.0.commit = commit_of_last end.0 zs end.1 in
+    let up : end.0.commit ≤ s.commit = omega arith in
+    subst (λ l. IsPrefix ys l) (sym (is_all xs zs s end.0 p history last end.1 up)) q
 
 starts : (log : List Seen) (e : Seen) → slice_get log 0 ≡ Some nothing → slice_get (log ++ e ∷ []) 0 ≡ Some nothing
 starts [] e at = absurd (cc at)

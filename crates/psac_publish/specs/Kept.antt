@@ -15,3 +15,7 @@ word_of b = record { tracked = true; key = 0; book = b }
 -- the value was added to all that had been seen, or the history had gone on
 abbrev pub Added : Step Seen → View Seen ℕ → ℕ → View Seen ℕ → Type 0
 Added s v found w = MatchBool (found == s.old) (w.0 ≡ v.0 ++ s.ask ∷ []) (Unit {0})
+
+-- all of the history was seen, and what was found is the number of commits of its last value
+abbrev pub WasRead : Step Seen → View Seen ℕ → ℕ → View Seen ℕ → Type 0
+WasRead s v found w = (found ≡ last_commit w.0) × IsHistory w.0

@@ -1,6 +1,6 @@
 // Beginnings of a history.
 use crate::Seen;
-use crate::ledger::{Adds, Law, Token, Untraded};
+use crate::ledger::{Adds, Law, Reads, Token, Untraded};
 use left_right::Absorb;
 use logbook::{Offer, Word};
 use std::alloc::AllocError;
@@ -24,7 +24,7 @@ impl Model for Front {
 }
 
 impl Front {
-    ghost use Rattle.std.specs.Prelude.{◌≡◌, ◌⊎◌, ◌<◌, [], ◌∷◌, ◌++◌, IfSome};
+    ghost use Rattle.std.specs.Prelude.{◌≡◌, ◌⊎◌, ◌<◌, [], ◌∷◌, ◌++◌, true, IfSome};
     ghost use mathlib.Core.List.{IsPrefix};
     ghost use Rattle.psac_publish.specs.History.{IsLast, IsHistory, last_commit, nothing, reached};
     ghost use Rattle.psac_publish.specs.Kept.{word_of};
@@ -73,6 +73,20 @@ impl Front {
         } else {
             self.again()
         }
+    }
+
+    /// Whether all of the history is this beginning. If it is, the other one is a beginning of this.
+    pub fn is_all(&self, word: &Word<Seen, u64, Law>, other: &Front) -> bool
+        requires word { word.now ≡ word_of self.now.book }
+        requires book { other.now.book ≡ self.now.book }
+        ensures { result ≡ true → IsPrefix other.now.log self.now.log }
+    {
+        let mut token = self.token.again();
+        token.learn(&other.token);
+        let mut offer: Offer<Seen, u64, Law, Untraded> = token.plain::<Untraded, Seen, Reads>(
+            &self.last,
+        );
+        word.load::<Reads, Untraded>(&mut token, &mut offer) == self.last.commit
     }
 
     /// The beginning with one value more. Nothing where the history went on without this beginning.

@@ -58,6 +58,23 @@ impl Plain<Seen, Seen, u64> for Adds {
     ghost state = { λ seen. None };
 }
 
+/// A step that only reads.
+pub struct Reads;
+
+impl Play<Seen, u64> for Reads {
+    ghost use Rattle.psac_publish.specs.Kept.{WasRead};
+
+    ghost then = { WasRead };
+}
+
+impl Plain<Seen, Seen, u64> for Reads {
+    ghost use Rattle.std.specs.Prelude.{None};
+
+    ghost ask = { λ seen. seen };
+
+    ghost state = { λ seen. None };
+}
+
 /// Names a history: which one it is, and what its values are, where that is told. It has no functions.
 pub trait SeenName {
     ghost use Rattle.logbook.specs.Pages.{Book};

@@ -1,10 +1,11 @@
 // The observers.
+ghost use Rattle.std.specs.Prelude.{◌≤◌};
 ghost use mathlib.Core.List.{IsPrefix};
-ghost use Rattle.psac_publish.specs.History.{IsOf};
+ghost use Rattle.psac_publish.specs.History.{IsOf, last_commit};
 
 use crate::front::Front;
 use crate::named::{Named, Sees};
-use crate::publisher::Told;
+use crate::publisher::{Published, Told};
 use crate::{Seen, SeenName};
 use left_right::reader::Reader;
 use std::marker::Model;
@@ -35,6 +36,7 @@ impl<N: SeenName> Model for Observer<N> {
 fn look_through<N: SeenName>(reader: Eyepiece<N>, front: &Front) -> (Eyepiece<N>, Front)
     requires { IsOf N.book N.course front.now }
     ensures later { IsPrefix front.now.log result.1.log }
+    ensures rises { last_commit front.now.log ≤ last_commit result.1.log }
     ensures of { IsOf N.book N.course result.1 }
 {
     match reader.enter_as::<Sees<N>>() {
@@ -47,9 +49,9 @@ fn look_through<N: SeenName>(reader: Eyepiece<N>, front: &Front) -> (Eyepiece<N>
 }
 
 impl<N: SeenName> Observer<N> {
-    ghost use Rattle.std.specs.Prelude.{◌≡◌, ◌⊎◌};
+    ghost use Rattle.std.specs.Prelude.{◌≡◌, ◌≤◌, ◌⊎◌, true};
     ghost use mathlib.Core.List.{IsPrefix};
-    ghost use Rattle.psac_publish.specs.History.{Fits, IsHistory, IsLast, IsOf};
+    ghost use Rattle.psac_publish.specs.History.{Fits, IsHistory, IsLast, IsOf, last_commit};
 
     pub(crate) fn new(front: Front, reader: Option<Eyepiece<N>>) -> Observer<N>
         requires { IsOf N.book N.course front }
@@ -67,10 +69,37 @@ impl<N: SeenName> Observer<N> {
         self.front = self.front.longer(&told.front);
     }
 
+    /// Takes in all that was published, so that it sees no less from now on, and says whether it knows of nothing else
+    /// then. It would know of more if the history went on without the publisher.
+    pub fn catch_up(&mut self, published: &Published<N>) -> bool
+        ensures seen { IsPrefix self.old self.new }
+        ensures rises { last_commit self.old ≤ last_commit self.new }
+        ensures all { result ≡ true → self.new ≡ published.now }
+    {
+        let whole = published.front();
+        if !whole.is_all(published.word(), &self.front) {
+            return false;
+        }
+        self.front = whole.again();
+        true
+    }
+
+    /// The last value that it saw or was told of, without a look.
+    pub fn seen(&self) -> Seen
+        ensures last { IsLast result self.now }
+        ensures commit { result.commit ≡ last_commit self.now }
+        ensures history { IsHistory self.now }
+        ensures fits { Fits N.course result }
+    {
+        self.front.last().again()
+    }
+
     /// The last value of a beginning of the history, which has all that this observer saw or was told of. It takes no
     /// memory and waits for nobody.
     pub fn look(&mut self) -> Seen
         ensures later { IsPrefix self.old self.new }
+        ensures rises { last_commit self.old ≤ last_commit self.new }
+        ensures commit { result.commit ≡ last_commit self.new }
         ensures last { IsLast result self.new }
         ensures history { IsHistory self.new }
         ensures fits { Fits N.course result }
@@ -80,6 +109,6 @@ impl<N: SeenName> Observer<N> {
             self.front = front;
             self.reader = Some(reader);
         }
-        self.front.last().again()
+        self.seen()
     }
 }

@@ -78,7 +78,8 @@ fn seat_all<N: SeenName>(
 
 impl<N: SeenName> Published<N> {
     ghost use Rattle.std.specs.Prelude.{◌<◌, [], ◌∷◌, ◌++◌, IfOk, MatchResult, length};
-    ghost use Rattle.psac_publish.specs.History.{Fits, last_commit, nothing};
+    ghost use Rattle.psac_publish.specs.History.{Fits, IsOf, last_commit, nothing};
+    ghost use Rattle.psac_publish.specs.Kept.{word_of};
 
     /// A publisher with so many observers, all of which see commit 0.
     pub fn new(
@@ -108,6 +109,21 @@ impl<N: SeenName> Published<N> {
         ensures { result ≡ last_commit self.now }
     {
         self.writer.published().last().commit
+    }
+
+    // The beginning that is published.
+    pub(crate) fn front(&self) -> &Front
+        ensures of { IsOf N.book N.course result.now }
+        ensures log { result.now.log ≡ self.now }
+    {
+        self.writer.published()
+    }
+
+    // The word of the history.
+    pub(crate) fn word(&self) -> &Word<Seen, u64, Law>
+        ensures { result.now ≡ word_of N.book }
+    {
+        &self.word
     }
 
     /// Publishes a value: observers see it from now on. It waits for those that still look at what it takes back.
