@@ -8,5 +8,6 @@ mod reply;
 mod text;
 mod top;
 
+pub use opening::{Unopened, open_named};
 pub use psac_open::Status;
 pub use top::{certified, dumped};

@@ -13,6 +13,8 @@ pub enum TopCall {
     Dump,
     /// One run, whose record a text is compared with.
     Certify,
+    /// A session whose outputs are seen while it runs.
+    Watch,
 }
 
 fn call_for(mode: &str) -> TopCall
@@ -22,6 +24,7 @@ fn call_for(mode: &str) -> TopCall
         "bench" => TopCall::Bench,
         "dump" => TopCall::Dump,
         "certify" => TopCall::Certify,
+        "watch" => TopCall::Watch,
         _ => TopCall::Run,
     }
 }

@@ -2,19 +2,11 @@
 #![tactic(auto)]
 
 #[cfg(test)]
-mod bench;
-#[cfg(test)]
-mod case;
-#[cfg(test)]
 mod opening;
 #[cfg(test)]
 mod outside;
 #[cfg(test)]
 mod plain_runs;
-#[cfg(test)]
-mod programs;
-#[cfg(test)]
-mod run_dump;
 #[cfg(test)]
 mod run_once;
 #[cfg(test)]
@@ -22,6 +14,10 @@ mod session_at_once;
 #[cfg(test)]
 mod session_full;
 #[cfg(test)]
+mod session_held;
+#[cfg(test)]
 mod session_outside;
 #[cfg(test)]
 mod session_replies;
+#[cfg(test)]
+mod whole;

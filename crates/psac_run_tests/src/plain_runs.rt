@@ -1,5 +1,5 @@
 // The plain evaluator, on the programs that are run.
-use crate::programs::{
+use psac_cases::programs::{
     CHAIN, DEEP, DEEP_READ, DEEPER, DEEPER_READ, DOUBLE, INNER, NEXT, QUOTIENTS, ROW_COUNT, SUM,
     TWO_FAULTS,
 };
@@ -55,39 +55,46 @@ fn stops(alloc: Global, program: &str, lines: &str, kind: FaultKind, line: u32) 
 
 #[test]
 fn plain_runs(rt: HostRuntime) {
-    let rows = [
-        (DOUBLE, "21\n", 42, [1, 0, 1, 0, 1]),
-        (SUM, "1\n2\n", 3, [10, 1, 3, 2, 4]),
-        (SUM, "1\n2\n3\n4\n", 10, [24, 3, 7, 6, 10]),
-        (INNER, "11\n", 1, [3, 0, 3, 2, 3]),
-        (ROW_COUNT, "1\n2\n", 2, [1, 0, 1, 0, 1]),
-        (NEXT, "-1\n", 0, [1, 0, 1, 0, 1]),
-        (DEEP, "", 148, [298, 0, 0, 0, 0]),
-        (DEEP_READ, "3\n", 3, [299, 0, 1, 0, 1]),
-        (CHAIN, "", 70, [282, 70, 70, 70, 70]),
-    ];
-    for (program, lines, output, size) in rows {
-        assert!(rt;
-            shows(rt.alloc(), program, lines, output, size),
-            "{program}"
-        );
-    }
+    let alloc = rt.alloc();
+    assert!(rt; shows(alloc, DOUBLE, "21\n", 42, [1, 0, 1, 0, 1]));
+    assert!(rt; shows(alloc, SUM, "1\n2\n", 3, [10, 1, 3, 2, 4]));
+    assert!(rt; shows(alloc, SUM, "1\n2\n3\n4\n", 10, [24, 3, 7, 6, 10]));
+    assert!(rt; shows(alloc, INNER, "11\n", 1, [3, 0, 3, 2, 3]));
+    assert!(rt; shows(alloc, ROW_COUNT, "1\n2\n", 2, [1, 0, 1, 0, 1]));
+    assert!(rt; shows(alloc, NEXT, "-1\n", 0, [1, 0, 1, 0, 1]));
+}
+
+#[test]
+fn deep_plain_runs(rt: HostRuntime) {
+    let alloc = rt.alloc();
+    assert!(rt; shows(alloc, DEEP, "", 148, [298, 0, 0, 0, 0]));
+    assert!(rt; shows(alloc, DEEP_READ, "3\n", 3, [299, 0, 1, 0, 1]));
+    assert!(rt; shows(alloc, CHAIN, "", 70, [282, 70, 70, 70, 70]));
 }
 
 #[test]
 fn plain_faults(rt: HostRuntime) {
-    let rows = [
-        (DOUBLE, "4611686018427387904\n", FaultKind::Overflow, 3),
-        (DOUBLE, "", FaultKind::Range, 2),
-        (NEXT, "9223372036854775808\n", FaultKind::Kind, 3),
-        (NEXT, "9223372036854775807\n", FaultKind::Overflow, 3),
-        (TWO_FAULTS, "", FaultKind::DivZero, 3),
-        (QUOTIENTS, "1\n0\n", FaultKind::DivZero, 5),
-        (QUOTIENTS, "0\n0\n", FaultKind::DivZero, 3),
-        (DEEPER, "", FaultKind::TooDeep, 4),
-        (DEEPER_READ, "3\n", FaultKind::TooDeep, 4),
-    ];
-    for (program, lines, kind, line) in rows {
-        assert!(rt; stops(rt.alloc(), program, lines, kind, line), "{program}");
-    }
+    let alloc = rt.alloc();
+    assert!(rt;
+        stops(
+            alloc,
+            DOUBLE,
+            "4611686018427387904\n",
+            FaultKind::Overflow,
+            3
+        )
+    );
+    assert!(rt; stops(alloc, DOUBLE, "", FaultKind::Range, 2));
+    assert!(rt; stops(alloc, NEXT, "9223372036854775808\n", FaultKind::Kind, 3));
+    assert!(rt; stops(alloc, NEXT, "9223372036854775807\n", FaultKind::Overflow, 3));
+    assert!(rt; stops(alloc, TWO_FAULTS, "", FaultKind::DivZero, 3));
+}
+
+#[test]
+fn plain_faults_of_parts(rt: HostRuntime) {
+    let alloc = rt.alloc();
+    assert!(rt; stops(alloc, QUOTIENTS, "1\n0\n", FaultKind::DivZero, 5));
+    assert!(rt; stops(alloc, QUOTIENTS, "0\n0\n", FaultKind::DivZero, 3));
+    assert!(rt; stops(alloc, DEEPER, "", FaultKind::TooDeep, 4));
+    assert!(rt; stops(alloc, DEEPER_READ, "3\n", FaultKind::TooDeep, 4));
 }

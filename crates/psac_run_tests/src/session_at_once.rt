@@ -3,7 +3,7 @@ ghost use Rattle.std.specs.Prelude.{◌≡◌};
 ghost use Rattle.psac_engine.specs.Engine.{commits_in};
 
 use crate::opening::{Opening, crew, opened};
-use crate::programs::SUM;
+use psac_cases::programs::SUM;
 use psac_engine::{Answer, Engine};
 use psac_fork::{Crew, Gate, NoGate, Side};
 use psac_inputs::{Batch, Interner};
@@ -53,11 +53,11 @@ impl Gate for Holds {
     }
 }
 
-// The sum of two cells, with room for its record and no more.
-fn sum_of_two() -> Opening<'static> {
+// Two cells, with room for the record of their sum and no more.
+fn of_two<'a>(program: &'a str, input: &'a str) -> Opening<'a> {
     Opening {
-        program: SUM,
-        input: "1\n2\n",
+        program,
+        input,
         room: 2,
         caps: Caps {
             nodes: 14,
@@ -68,6 +68,10 @@ fn sum_of_two() -> Opening<'static> {
     }
 }
 
+fn is_text(bytes: &Vec<u8>, text: &str) -> bool {
+    bytes.as_slice() == text.as_bytes()
+}
+
 // With two workers the right side of a par begins while the left one waits for it.
 #[test]
 fn both_sides_run_at_once(rt: HostRuntime) -> Result<(), Fail> {
@@ -75,12 +79,12 @@ fn both_sides_run_at_once(rt: HostRuntime) -> Result<(), Fail> {
     let Ok(mut texts) = Interner::new(alloc) else {
         return Err("memory")?;
     };
-    let mut engine = opened(alloc, &sum_of_two(), &mut texts)?;
+    let mut engine = opened(alloc, &of_two(SUM, "1\n2\n"), &mut texts)?;
     let gate = Holds::new();
     let Ok(text) = once(&rt, alloc, &mut engine, &texts, &crew(2)?, &gate) else {
         return Err("memory")?;
     };
-    assert_eq!(rt; text.as_slice(), b"out = 3\n".as_slice());
+    assert!(rt; is_text(&text, "out = 3\n"));
     assert!(rt; gate.has_seen_right());
     Ok(())
 }
@@ -114,7 +118,7 @@ fn both_sides_are_repaired_at_once(rt: HostRuntime) -> Result<(), Fail> {
     let Ok(mut texts) = Interner::new(alloc) else {
         return Err("memory")?;
     };
-    let mut engine = opened(alloc, &sum_of_two(), &mut texts)?;
+    let mut engine = opened(alloc, &of_two(SUM, "1\n2\n"), &mut texts)?;
     let gate = Holds::new();
     let told = repaired(&rt, alloc, &mut engine, &crew(2)?, &gate)?;
     let Ok(work) = told else {

@@ -1,5 +1,5 @@
 use crate::opening::{CAPS, Opening, crew, opened};
-use crate::programs::SUM;
+use psac_cases::programs::SUM;
 use psac_engine::{Answer, Engine};
 use psac_fork::NoGate;
 use psac_inputs::{Batch, Interner};

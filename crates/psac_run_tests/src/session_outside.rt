@@ -1,6 +1,6 @@
 use crate::opening::{CAPS, Opening, run};
-use crate::programs::DOUBLE;
 use psac_base::{MemSink, MemSource};
+use psac_cases::programs::DOUBLE;
 use psac_session::SessionEnd;
 use std::alloc::Global;
 use std::process::Abort;

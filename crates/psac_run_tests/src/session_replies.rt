@@ -1,5 +1,5 @@
 use crate::opening::{CAPS, Opening, carried};
-use crate::programs::DOUBLE;
+use psac_cases::programs::DOUBLE;
 use psac_session::SessionEnd;
 use std::alloc::Global;
 use std::process::Abort;

@@ -178,4 +178,5 @@ fn calls(rt: HostRuntime) {
     assert!(rt; is_call(alloc, "psac bench p 4x1", TopCall::Bench) == Ok(true));
     assert!(rt; is_call(alloc, "psac dump p i j k", TopCall::Dump) == Ok(true));
     assert!(rt; is_call(alloc, "psac certify p i", TopCall::Certify) == Ok(true));
+    assert!(rt; is_call(alloc, "psac watch p", TopCall::Watch) == Ok(true));
 }

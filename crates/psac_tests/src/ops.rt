@@ -2,7 +2,9 @@
 ghost use Rattle.std.specs.Prelude.{◌≡◌};
 ghost use Rattle.psac_ops.specs.Table.{arity};
 
-use psac_ops::{Handle, Op, OpFault, Plain, TextId, apply, find, from_words, row, to_words};
+use psac_ops::{
+    Handle, Op, OpFault, OpRow, Plain, TextId, apply, find, from_words, operators, row, to_words,
+};
 
 const A: Handle = Handle {
     slot: 7,
@@ -36,6 +38,19 @@ fn operators_give_what_the_table_says(rt: HostRuntime) {
 fn names_lead_to_their_rows(rt: HostRuntime) {
     let rows = [row(Op::Add), row(Op::Snd)];
     assert!(rt; find(&rows, "snd") == Some(1) && find(&rows, "plus").is_none());
+    assert!(rt; find(&operators(), "not") == Some(13));
+}
+
+#[test]
+fn of_two_rows_of_one_name_the_first_is_found(rt: HostRuntime) {
+    let sign = OpRow {
+        name: "-",
+        arity: 1,
+        infix: false,
+        op: Op::Neg,
+    };
+    let rows = [row(Op::Add), row(Op::Sub), sign];
+    assert!(rt; find(&rows, "-") == Some(1));
 }
 
 #[test]

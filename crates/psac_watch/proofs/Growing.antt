@@ -1,9 +1,9 @@
 -- Values that were shown one after another.
-use Rattle.std.proofs.Common.{◌∙◌, ℕ, List, [], ◌∷◌, ◌++◌, Option, Some, None, refl, ap, sym, append_assoc}
+use Rattle.std.proofs.Common.{◌≡◌, ◌∙◌, ◌≤◌, ◌<◌, IfSome, arith, ℕ, List, [], ◌∷◌, ◌++◌, Option, Some, None, refl, ap, sym, append_assoc}
 use Rattle.std.proofs.lemmas.List.{append-nil}
 use Rattle.psac_publish.specs.declared.seen.Seen.{Seen}
 use Rattle.psac_publish.specs.History.{Course}
-use Rattle.psac_watch.specs.Showed.{Follow, Showed}
+use Rattle.psac_watch.specs.Showed.{Follow, IsAt, Showed}
 
 follow_on : (course : Course) (a b c : Option ℕ) (xs ys : List Seen) → Follow course a xs b → Follow course b ys c → Follow course a (xs ++ ys) c
 follow_on course a b c [] ys first then_ = rw first then_
@@ -23,3 +23,11 @@ shown_on course a b c (Some x) (Some y) (Some z) first then_ = record {
   grown = then_.grown ∙ ap (λ (xs : List Seen). xs ++ then_.values) first.grown ∙ append_assoc x first.values then_.values;
   follow = follow_on course a b c first.values then_.values first.follow then_.follow;
 }
+
+pub at_some : (last : Option ℕ) (n : ℕ) → last ≡ Some n → IsAt last n
+at_some last n is = rw is refl
+
+-- the number of a last value isn't above a greater one
+pub up_to : (last : Option ℕ) (m n : ℕ) → IsAt last m → m ≤ n → IfSome last (λ k. k ≤ n)
+up_to None m n at up = tt
+up_to (Some k) m n at up = rw at up

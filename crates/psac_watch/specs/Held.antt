@@ -1,5 +1,5 @@
 -- What a session with a listener did.
-use Rattle.std.specs.Prelude.{◌≡◌, ℕ, ◌+◌, ◌↔◌, List, [], ◌∷◌, length, Option}
+use Rattle.std.specs.Prelude.{◌≡◌, ℕ, ◌+◌, ◌≤◌, ◌↔◌, List, [], ◌∷◌, length, Option}
 use Rattle.psac_base.specs.Causes.{Rose}
 use Rattle.psac_session.specs.Answered.{Answer, AnsweredLong, AnsweredWhole, ReadOut}
 use Rattle.psac_session.specs.Attended.{Attended, AttendedPart, Hearing}
@@ -29,8 +29,9 @@ pub record IsHeld (answer : Answer) (hearing : Hearing) (script script_now : Sou
   -- a read failed, and the whole lines of what was read were answered
   pub source : ended ≡ end.SourceFailed → Rose script.faults script_now.faults
   pub broken : ended ≡ end.SourceFailed → AnsweredWhole answer script.left script_now.left before.0 now.0
-  -- a write failed
+  -- a write failed; the count of such faults never falls
   pub sink : ended ≡ end.SinkFailed → Rose faults faults_now
+  pub later : faults ≤ faults_now
   -- too much was read, exactly there
   pub long : (ended ≡ end.TooLong) ↔ (script_now.taken ≡ script.taken + 16777217)
   pub much : ended ≡ end.TooLong → AnsweredLong answer script.left script_now.left before.0 now.0

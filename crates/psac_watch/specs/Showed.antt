@@ -13,6 +13,10 @@ Saw (Some seen) (Some now) s = now ≡ seen ++ s ∷ []
 abbrev pub IsAbove : Option ℕ → ℕ → Type 0
 IsAbove last n = IfSome last (λ m. m < n)
 
+-- this is the number of commits of the last value, if there is one
+abbrev pub IsAt : Option ℕ → ℕ → Type 0
+IsAt last n = IfSome last (λ m. m ≡ n)
+
 -- values with rising numbers of commits, each of which is what is told for its number; the first number is above the one
 -- before, and the last one is told
 abbrev pub Follow : Course → Option ℕ → List Seen → Option ℕ → Type 0

@@ -3,9 +3,12 @@
 
 mod eye;
 mod publisher;
+mod run;
 mod showing;
 mod sides;
+mod top;
 mod watching;
 
 pub use eye::{Eye, NoEye};
-pub use watching::{Followed, follow};
+pub use psac_open::Status;
+pub use top::watch;

@@ -1,6 +1,7 @@
 // The listener that publishes what it hears.
 ghost use Rattle.std.specs.Prelude.{◌≡◌, IfOk};
 ghost use Rattle.psac_engine.specs.Engine.{caps_in, commits_in, grid_in, kept_in, world_in};
+ghost use Rattle.psac_engine.specs.Held.{HandlesGo, nothing_dropped};
 ghost use Rattle.psac_session.specs.Heard.{shown_in};
 ghost use Rattle.psac_watch.specs.Published.{IsCounted, heard_in};
 
@@ -19,6 +20,7 @@ pub struct Publisher<N: SeenName> {
 // The outputs of an engine. There are never more than a program may have; for more there would be no memory.
 fn outputs_now(engine: &mut Engine) -> Result<Option<Outputs>, NoMemory>
     ensures shown { IfOk result (λ outputs. outputs ≡ shown_in engine.old) }
+    ensures handles { HandlesGo engine.old engine.new nothing_dropped }
     ensures kept { kept_in engine.new ≡ kept_in engine.old }
     ensures grid { grid_in engine.new ≡ grid_in engine.old }
     ensures commits { commits_in engine.new ≡ commits_in engine.old }

@@ -1,11 +1,12 @@
 // Two sides at once: a session, and what shows its outputs.
 ghost use Rattle.std.specs.Prelude.{◌<◌, None, IfSome, length};
 ghost use Rattle.psac_engine.specs.Engine.{commits_in};
+ghost use Rattle.psac_publish.specs.History.{last_commit};
 ghost use Rattle.psac_session.specs.Answered.{answer_of, most_opened};
 ghost use Rattle.psac_session.specs.Attended.{Foretold, hearing_of};
 ghost use Rattle.psac_watch.specs.Held.{IsHeld, source_of};
 ghost use Rattle.psac_watch.specs.Published.{heard_in};
-ghost use Rattle.psac_watch.specs.Showed.{Showed};
+ghost use Rattle.psac_watch.specs.Showed.{IsAt, Showed};
 
 use crate::eye::Eye;
 use crate::publisher::Publisher;
@@ -79,6 +80,7 @@ pub fn both<
         (K.held out.old, heard_in publisher.old.published) (K.held out.new, heard_in publisher.new.published)
         (K.faults out.old) (K.faults out.new) result.1 }
     ensures shown { Showed N.course None result.0 (E.shown eye.old) (E.shown eye.new) }
+    ensures latest { IsAt result.0 (last_commit observer.new) }
 {
     join_mut(
         rt,

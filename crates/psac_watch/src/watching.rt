@@ -1,5 +1,5 @@
 // A session over an engine, and what is shown of it.
-ghost use Rattle.std.specs.Prelude.{◌≡◌, ◌<◌, [], ◌∷◌, None, Option, ℕ, IfSome};
+ghost use Rattle.std.specs.Prelude.{◌≡◌, ◌<◌, ◌⊎◌, [], ◌∷◌, true, None, Some, Option, ℕ, IfSome};
 ghost use Rattle.psac_engine.specs.Engine.{commits_in};
 ghost use Rattle.psac_publish.specs.History.{Fits, nothing};
 ghost use Rattle.psac_session.specs.Answered.{answer_of, most_opened};
@@ -10,7 +10,7 @@ ghost use Rattle.psac_watch.specs.Showed.{Showed};
 
 use crate::eye::Eye;
 use crate::publisher::Publisher;
-use crate::showing::show_new;
+use crate::showing::show;
 use crate::sides::both;
 use psac_base::{Sink, Source};
 use psac_engine::Engine;
@@ -23,7 +23,7 @@ use std::sync::Wait;
 use std::sync::atomic::AtomicBool;
 use std::thread::Threads;
 
-/// How a session that was followed ended, and how many commits were published.
+/// How a session that was followed ended, how many commits were published, and how many the last value has that was shown.
 #[derive(Drop)]
 pub struct Followed {
     pub end: SessionEnd,
@@ -31,7 +31,19 @@ pub struct Followed {
     pub last: Option<u64>,
 }
 
-// The session is held, and its outputs are shown. What was published last is shown too.
+// No session ends well of which the observer knows more than was published. No clause of a word says that only its owner
+// writes it, so that this is asked.
+fn end_where(known: bool, end: SessionEnd) -> SessionEnd
+    ensures known { result ≡ SessionEnd.Done → known ≡ true }
+    ensures end { (result ≡ end) ⊎ ((end ≡ SessionEnd.Done) × (result ≡ SessionEnd.NoMemory)) }
+{
+    match end {
+        SessionEnd::Done if !known => SessionEnd::NoMemory,
+        end => end,
+    }
+}
+
+/// The session is held, and its outputs are shown. What was published last is shown too.
 pub fn follow<
     Rt: Threads + Wait + Sync,
     S: Source,
@@ -59,6 +71,8 @@ pub fn follow<
         (source_of (S.left script.old) (S.taken script.old) (S.faults script.old)) (source_of (S.left script.new) (S.taken script.new) (S.faults script.new))
         (K.held out.old) (K.held out.new) (K.faults out.old) (K.faults out.new) result.end result.commits }
     ensures shown { Showed N.course None result.last (E.shown eye.old) (E.shown eye.new) }
+    // Where all was done the last value was shown.
+    ensures last { result.end ≡ SessionEnd.Done → result.last ≡ Some result.commits }
 {
     let mut publisher = Publisher { published };
     let ended = AtomicBool::new(false);
@@ -77,9 +91,13 @@ pub fn follow<
         &ended,
     );
     let Publisher { published } = publisher;
-    observer.learn(published.tell());
-    let last = show_new(&mut observer, eye, last);
+    let known = observer.catch_up(&published);
+    let last = show::<E, N>(eye, &observer.seen(), last);
     let commits = published.last();
     published.close(rt);
-    Followed { end, commits, last }
+    Followed {
+        end: end_where(known, end),
+        commits,
+        last,
+    }
 }

@@ -8,6 +8,7 @@ returns g c = record {
   source = c.session_with-end.ensures.source;
   broken = c.session_with-end.ensures.broken;
   sink = c.session_with-end.ensures.sink;
+  later = c.session_with-end.ensures.later;
   long = c.session_with-end.ensures.long;
   much = c.session_with-end.ensures.much;
 }

@@ -35,6 +35,14 @@ pub const DEEPER: &str =
 pub const INNER: &str =
     "func main(; out) {\n  new p;\n  read cell(0, 0) as x {\n    new q;\n    write q = x / 10;\n    write p = q;\n  }\n  read p as r {\n    read r as y { write out = y; }\n  }\n}\n";
 
+/// A reference to a modifiable that holds the first cell, and the second cell. Its outputs are `out` and `other`.
+pub const REFERENCE: &str =
+    "func main(; out, other) {\n  read cell(0, 0) as x {\n    new q;\n    write q = x;\n    write out = q;\n  }\n  read cell(1, 0) as y { write other = y; }\n}\n";
+
+/// A pair of a modifiable that holds 5 and the first cell.
+pub const COUPLE: &str =
+    "func main(; out) {\n  new a;\n  write a = 5;\n  write out = pair(a, cell(0, 0));\n}\n";
+
 /// Ten divided by each of the first two cells, on either side of a `par`, in lines 3 and 5. Its outputs are `a` and `b`.
 pub const QUOTIENTS: &str =
     "func main(; a, b) {\n  par {\n    read cell(0, 0) as x { write a = 10 / x; }\n  } {\n    read cell(1, 0) as y { write b = 10 / y; }\n  }\n}\n";
