@@ -222,7 +222,7 @@ class Run:
             self.count("nodes")
             self.count("links", len(reads))
             part, end = self.body(statement.bodies[0], 0, its, path + "2", level)
-            return Read(statement.block, reads, part), end
+            return Read(statement.block, reads, part, environment), end
 
         return self.sequence(environment, block)
 

@@ -45,10 +45,10 @@ class Parallel:
 
 
 class Read:
-    """A read block: its number, its reads as pairs of a name and a value, and what its body left."""
+    """A read block: its number, its reads as pairs of a name and a value, what its body left, and the names in scope before it."""
 
-    def __init__(self, block, reads, part):
-        self.block, self.reads, self.part = block, reads, part
+    def __init__(self, block, reads, part, environment):
+        self.block, self.reads, self.part, self.environment = block, reads, part, environment
 
     def children(self):
         return [("2", self.part)]

@@ -1,4 +1,4 @@
-"""Sessions: scripts line by line, what each changes, and the reply. Also the two other modes, once and bench."""
+"""Sessions: scripts line by line, what each changes, and the reply. Also the modes once, watch and bench."""
 import re
 
 import inputs
@@ -58,13 +58,14 @@ class Session:
 
     def __init__(self, program, grid, texts, caps, repairs, holds):
         self.program, self.grid, self.texts, self.caps, self.repairs, self.holds = program, grid, texts, caps, repairs, holds
-        self.staged, self.kept, self.places, self.work = grid.copy(), None, {}, None
+        self.staged, self.kept, self.places, self.work, self.commits = grid.copy(), None, {}, None, 0
         self.outputs = program.function("main").destinations
 
     # Commits.
 
     def commit(self):
         """Runs over what is staged: the line that is printed."""
+        self.commits += 1
         self.grid, self.work = self.staged.copy(), None
         old, self.kept = self.kept, None
         try:
@@ -207,15 +208,27 @@ def once_report(session):
     return session.show_command() if session.kept else reply
 
 
-def report(mode, program_text, input_name, input_bytes, settings, script=b""):
-    """The status and the whole report of a run."""
+def answered(reply, program_text, input_name, input_bytes, settings):
+    """The status and the whole report of a run, whose session gives this reply once it is opened."""
     try:
         session = opened(program_text, input_name, input_bytes, settings)
     except syntax.Refused as refused:
         return 4, f"{refused}\n".encode()
     except inputs.Refused as refused:
         return 5, f"{refused}\n".encode()
-    return 0, once_report(session) if mode == "once" else session.script(script)
+    return 0, reply(session)
+
+
+def watch_report(session, script):
+    """The replies to a script, and how many commits there were."""
+    replies = session.script(script)
+    return replies + f"watched {session.commits}\n".encode()
+
+
+def report(mode, program_text, input_name, input_bytes, settings, script=b""):
+    """The status and the whole report of one run, or of a session, watched or not."""
+    hows = {"once": once_report, "session": lambda it: it.script(script), "watch": lambda it: watch_report(it, script)}
+    return answered(hows[mode], program_text, input_name, input_bytes, settings)
 
 
 def bench(program_text, cells, batches, settings):

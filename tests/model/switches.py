@@ -2,5 +2,5 @@
 
 # Whether a commit repairs the record that is kept. Until then each commit runs anew.
 REPAIRS = True
-# Whether a script has the commands `hold` and `held`. Until then they are no commands.
-HOLDS = False
+# Whether a script has the commands `hold` and `held`. Without them they are no commands.
+HOLDS = True

@@ -23,15 +23,20 @@ def options(name):
     return {option.lstrip("-"): int(number) for option, number in zip(words[::2], words[1::2])}
 
 
+def mode(name):
+    """The mode of an example, which is a session's where it names none."""
+    return content(name, "mode.txt").decode().strip() if os.path.exists(os.path.join(EXAMPLES, name, "mode.txt")) else "session"
+
+
 class Examples(unittest.TestCase):
     def test_outputs(self):
         names = sorted(it.name for it in os.scandir(EXAMPLES) if it.is_dir())
-        self.assertGreaterEqual(len(names), 8)
+        self.assertGreaterEqual(len(names), 9)
         for name in names:
             given = next(it for it in sorted(os.listdir(os.path.join(EXAMPLES, name))) if it.startswith("input."))
             settings = session.Settings(switches.REPAIRS, switches.HOLDS, **options(name))
             program, script = content(name, "program.psac"), content(name, "script.txt")
-            got = session.report("session", program, given, content(name, given), settings, script)
+            got = session.report(mode(name), program, given, content(name, given), settings, script)
             self.assertEqual(got, (0, content(name, "output.txt")), name)
 
 

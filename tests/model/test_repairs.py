@@ -52,7 +52,7 @@ class Dump:
             return record.Write(name_of(name), value_of(value), self.part(path + "3"))
         if kind == b"R":
             reads = [(name_of(name), value_of(value)) for name, value in READ.findall(line.partition(b" |")[2])]
-            return record.Read(int(line.split(b" ")[1]), reads, self.part(path + "2"))
+            return record.Read(int(line.split(b" ")[1]), reads, self.part(path + "2"), {})
         left, right = self.part(path + "0"), self.part(path + "1")
         return record.Sequence(left, right) if kind == b"S" else record.Parallel(left, right)
 
