@@ -29,7 +29,7 @@ _psac() {
         fi
     done
     if [ "${COMP_WORDS[1]}" = help ] && [ "$COMP_CWORD" -gt 1 ]; then
-        [ "$COMP_CWORD" = 2 ] && COMPREPLY=($(compgen -W "once session bench dump certify LANGUAGE SCRIPT HINTS" -- "$word"))
+        [ "$COMP_CWORD" = 2 ] && COMPREPLY=($(compgen -W "once session bench dump certify watch explain LANGUAGE SCRIPT HINTS" -- "$word"))
         return
     fi
     if [[ $word == -* ]]; then
@@ -38,9 +38,10 @@ _psac() {
         return
     fi
     case $plain in
-        0) COMPREPLY=($(compgen -W "once session bench dump certify help" -- "$word")) ;;
+        0) COMPREPLY=($(compgen -W "once session bench dump certify watch explain help" -- "$word")) ;;
         1) _psac_files '*.psac' ;;
         2) [ "${COMP_WORDS[1]}" = bench ] || _psac_files '' ;;
+        3) [ "${COMP_WORDS[1]}" != explain ] || _psac_files '' ;;
     esac
 }
 

@@ -1,4 +1,5 @@
-"""python3 front hints|plain PROGRAM WORD..: runs the built program, with hints where they are wanted, and with a prompt."""
+"""python3 front hints|plain PROGRAM WORD..: runs the built program, with hints where they are wanted, and with a prompt;
+python3 front explain PROGRAM WORD..: explains the last commit of a script."""
 import os
 import signal
 import sys
@@ -7,6 +8,8 @@ import sys
 if signal.getsignal(signal.SIGINT) is signal.default_int_handler:
     signal.signal(signal.SIGINT, signal.SIG_DFL)
 if sys.version_info < (3, 8):
+    if sys.argv[1] == "explain":
+        sys.exit("psac: explain needs Python 3.8 or later")
     os.execvp(sys.argv[2], sys.argv[2:])
 sys.path[0] = os.path.dirname(os.path.dirname(os.path.abspath(__file__)))
 
@@ -50,7 +53,7 @@ def converse(program, given, request, has_hints):
 
 def pass_through(program, given, request):
     """A run whose report is passed through, with hints behind it."""
-    has_commits = request is not None and request.mode == "session"
+    has_commits = request is not None and request.has_script
     # Where a script is typed, a line that says how far the run is would stand in the way.
     is_typed = has_commits and is_terminal(0)
     report = Report()
@@ -63,6 +66,10 @@ def pass_through(program, given, request):
 
 def main(how, program, given):
     """Runs the program, and ends as it does."""
+    if how == "explain":
+        from front import explain
+
+        sys.exit(explain.main(program, given))
     request, has_hints = request_of(given), how == "hints"
     if are_open(0, 1, 2):
         if is_interactive(request):

@@ -65,16 +65,14 @@ COMMANDS = {
     ),
     "hold": Command(
         "hold H out I",
-        "holds a modifiable at place H",
-        "What is held is output I, or what place G refers to:\n"
+        "holds output I at place H, or what is reached from another place",
+        "What is held is output I, or what the value at place G refers to, or the first\n"
+        "or the second one of the pair there. There are 64 places, from 0 on.\n"
         "  hold H out I\n  hold H ref G\n  hold H fst G\n  hold H snd G",
         rf"hold {_NUMBER} (out|ref|fst|snd) {_NUMBER}",
     ),
-    "held": Command("held H", "shows what is held at place H", "See hold.", rf"held {_NUMBER}"),
+    "held": Command("held H", "shows the value of what place H holds", "stale where that is no longer there. help hold says more.", rf"held {_NUMBER}"),
 }
-# Those that the program refuses today. Help, completion and hints follow this list, and front/pages/script.txt names them.
-LATER = ("hold", "held")
-PRESENT = [it for it in COMMANDS if it not in LATER]
 
 # The commands that the front answers itself.
 OWN = {
@@ -103,18 +101,16 @@ def help_on(words):
     if not words:
         return overview()
     name = "help" if words[0] == "?" else words[0]
-    if name in LATER:
-        return f"{later(name)}\n"
     command = COMMANDS.get(name) or OWN.get(name)
     if command is None:
-        close = difflib.get_close_matches(name.lower(), [*PRESENT, *OWN], 1, 0.5)
-        return f"There is no command '{short(name)}'. There is {listed(close or [*PRESENT, *OWN])}.\n"
+        close = difflib.get_close_matches(name.lower(), [*COMMANDS, *OWN], 1, 0.5)
+        return f"There is no command '{short(name)}'. There is {listed(close or [*COMMANDS, *OWN])}.\n"
     return f"{command.form}: {command.does}\n{command.more}\n"
 
 
 def overview():
     """All commands, and the keys."""
-    shown = [COMMANDS[it] for it in PRESENT] + list(OWN.values())
+    shown = list(COMMANDS.values()) + list(OWN.values())
     return "".join(f"  {it.form:<16}{it.does}\n" for it in shown) + (
         "\n"
         "What is staged comes into force at the next commit. Rows and columns count\n"
@@ -125,11 +121,6 @@ def overview():
     )
 
 
-def later(name):
-    """That a command isn't there yet."""
-    return f"{name} isn't there yet"
-
-
 def why_refused(line):
     """Why the program refuses a line as no command, as a sentence."""
     words = line.split()
@@ -137,10 +128,8 @@ def why_refused(line):
         return "a line of blanks is no command"
     name = words[0]
     if name not in COMMANDS:
-        close = difflib.get_close_matches(name.lower(), [*PRESENT, *OWN], 1, 0.6)
+        close = difflib.get_close_matches(name.lower(), [*COMMANDS, *OWN], 1, 0.6)
         return f"there is no command {short(name)}; " + (f"there is {close[0]}" if close else "help lists them all")
-    if name in LATER:
-        return later(name)
     return wrong_form(name, line, words)
 
 
@@ -161,9 +150,9 @@ def wrong_form(name, line, words):
 def candidates(words, prefix):
     """What may follow these words and begins with the prefix."""
     if not words:
-        found = [f"{it} " if " " in COMMANDS[it].form else it for it in PRESENT] + [*OWN]
+        found = [f"{it} " if " " in COMMANDS[it].form else it for it in COMMANDS] + [*OWN]
     elif words == ["help"] or words == ["?"]:
-        found = [*PRESENT, *OWN]
+        found = [*COMMANDS, *OWN]
     elif words == ["autoshow"]:
         found = ["on", "off"]
     else:

@@ -19,9 +19,9 @@ front_page() {
         *) return 0 ;;
     esac
     case $topic in
-        help | once | session | bench | dump | certify | language | script | hints) cat "$front/pages/$topic.txt"; exit ;;
+        help | once | session | bench | dump | certify | watch | explain | language | script | hints) cat "$front/pages/$topic.txt"; exit ;;
     esac
-    echo "psac: there is no page '$2'; there are: once session bench dump certify LANGUAGE SCRIPT HINTS" >&2
+    echo "psac: there is no page '$2'; there are: once session bench dump certify watch explain LANGUAGE SCRIPT HINTS" >&2
     exit 2
 }
 
@@ -53,8 +53,16 @@ front_is_typed() {
     esac
 }
 
+# front_explain WORD..: has Python explain the last commit of a script.
+front_explain() {
+    python=${PSAC_PYTHON:-python3}
+    command -v "$python" >/dev/null || { echo "psac: explain needs Python 3.8 or later" >&2; exit 1; }
+    exec "$python" -I -S -B "$front" explain "$program" "$@"
+}
+
 # front_run WORD..: becomes the program, with the front before it where that is wanted and Python is there.
 front_run() {
+    if [ "${1-}" = explain ]; then shift; front_explain "$@"; fi
     how=plain
     if front_has_hints; then how=hints; fi
     python=${PSAC_PYTHON:-python3}

@@ -18,13 +18,13 @@ REFUSED = {
     "refused form": "that line is no command, and its parts have one space between them; "
     + code("'psac help SCRIPT'")
     + " lists the commands",
-    "refused range": "there is no such cell, or no room for so many rows: cells count from 0, and the option --rows "
-    "makes room",
+    "refused range": "there is no such cell, place or output, or no room for so many rows: all count from 0, and the "
+    "option --rows makes room",
     "refused utf8": "the field isn't UTF-8",
     "refused limit": "the list of texts is full: use texts that are there, or numbers",
     "refused empty": "that place holds nothing",
     "refused kind": "what is there isn't of the kind that hold asks for",
-    "stale": "what that place holds was dropped",
+    "stale": "what that place holds is no longer there: hold it anew",
 }
 
 
@@ -65,7 +65,7 @@ def after(given, noted, status):
     for line in noted:
         if len(noted) > 1:
             lines.append(f"on '{line}':")
-        lines.extend(on_line(request, line, lambda: cells_of(request), request.mode == "session"))
+        lines.extend(on_line(request, line, lambda: cells_of(request), request.has_script))
     return lines
 
 

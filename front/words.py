@@ -5,7 +5,7 @@ from typing import Dict, NamedTuple
 from front.screen import code, short
 from front.wording import listed
 
-MODES = ("once", "session", "bench", "dump", "certify")
+MODES = ("once", "session", "bench", "dump", "certify", "watch")
 # How many cells and batches a bench has, at least and at most.
 CELLS, BATCHES = (1, 65536), (0, 1000)
 
@@ -41,6 +41,11 @@ class Request(NamedTuple):
     program: str
     input: str
     options: Dict[str, int]
+
+    @property
+    def has_script(self):
+        """Whether a script of edits and commits is read."""
+        return self.mode in ("session", "watch")
 
 
 def read(given):
@@ -88,7 +93,7 @@ def check_plain(plain):
     if plain[0] not in MODES:
         if plain[0].endswith(".psac") or len(plain) == 2:
             example = code(f"psac {MODES[0]} {' '.join(short(it, 60) for it in plain)}")
-            raise Wrong(f"the mode, {listed(MODES, 'or')}, comes first, as in: {example}")
+            raise Wrong(f"the mode, {listed(MODES, 'or')}, is first, as in: {example}")
         raise Wrong(f"the first word is the mode, {listed(MODES, 'or')}, and {short(plain[0], 60)} is none")
     if len(plain) == 1:
         raise Wrong("the names of the program and of the input are missing")

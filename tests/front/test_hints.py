@@ -201,7 +201,8 @@ class Commands(Case):
             ("set  0 0 5", "one space between"),
             ("set -1 0 5", "no sign"),
             ("rows x", "the form is: rows N"),
-            ("hold 0 out 0", "isn't there yet"),
+            ("hold 0 in 0", "the form is: hold H out I"),
+            ("held", "the form is: held H"),
             ("   ", "a line of blanks"),
         ):
             self.assertIn(part, commands.why_refused(line), line)

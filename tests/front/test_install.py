@@ -84,6 +84,8 @@ class Install(support.Case):
         self.save("before", "psac record 1\nE\n")
         self.save("t.txt", "5\n")
         self.assertEqual(self.installed(f"{folder}/psac-explain", "before", "before")[0], 0)
+        self.save("script", "commit\nset 0 0 5\ncommit\n")
+        self.assertIn(b"\n#1 block at line 2 ", self.installed(psac, "explain", "double.psac", "cells.txt", "script")[1])
         self.assertEqual(self.installed(f"{folder}/psac-record-svg", "before")[0], 0)
         self.assertEqual(self.installed(f"{folder}/psac-edits", "t.txt", "t.txt"), (0, b"commit\n", b""))
         self.assertEqual(self.installed(f"{folder}/psac-work-plot", "t.txt")[0], 1)
@@ -134,7 +136,8 @@ class Completion(support.Case):
         os.mkdir(f"{self.folder}/ab")
         for words, wanted in (
             ("psac o", "once"),
-            ("psac ", "bench certify dump help once session"),
+            ("psac ", "bench certify dump explain help once session watch"),
+            ("psac explain a.psac a.csv a.", "a.csv a.psac"),
             ("psac help L", "LANGUAGE"),
             ("psac once a.psac a.", "a.csv a.psac"),
             ("psac once --rows 5 a.p", "a.psac"),
@@ -151,7 +154,7 @@ class Completion(support.Case):
         with open(f"{support.ROOT}/completion/_psac") as file:
             zsh = file.read()
         self.assertEqual(self.complete("psac", "once", "a.psac", "--"), sorted(f"--{it}" for it in words.OPTIONS))
-        self.assertEqual(self.complete("psac", ""), sorted(["help", *words.MODES]))
+        self.assertEqual(self.complete("psac", ""), sorted(["explain", "help", *words.MODES]))
         for name, bounds in words.OPTIONS.items():
             self.assertIn(f"'--{name}[", zsh)
             self.assertIn(f"number, {bounds.least} to {bounds.most}:", zsh)

@@ -37,12 +37,15 @@ class Pipes(support.Case):
         self.assertTrue(folders)
         for folder in folders:
             (name,) = (os.path.basename(it) for it in glob.glob(f"{folder}input.*"))
-            options = []
+            options, mode = [], "session"
+            if os.path.exists(f"{folder}mode.txt"):
+                with open(f"{folder}mode.txt") as file:
+                    mode = file.read().strip()
             if os.path.exists(f"{folder}options.txt"):
                 with open(f"{folder}options.txt") as file:
                     options = file.read().split()
             with open(f"{folder}script.txt", "rb") as script, open(f"{folder}output.txt", "rb") as wanted:
-                status, output, _ = self.both(["session", "program.psac", name, *options], folder, script.read())
+                status, output, _ = self.both([mode, "program.psac", name, *options], folder, script.read())
                 self.assertEqual((status, output), (0, wanted.read()), folder)
             self.both(["once", "program.psac", name, *options], folder)
 
@@ -153,6 +156,8 @@ class Pages(support.Case):
         "help bench": b"cells=4 batches=1",
         "help dump": b"psac record 1",
         "help certify": b"\n  no N ",
+        "help explain": b"psac explain PROGRAM INPUT SCRIPT",
+        "help watch": b"\n  watched 2\n",
         "help LANGUAGE": b"neg(5)",
         "help language": b"neg(5)",
         "help SCRIPT": b"set R C FIELD",
@@ -171,7 +176,7 @@ class Pages(support.Case):
             self.assertIn(mark, output, words)
             for line in output.splitlines():
                 self.assertLessEqual(len(line), 80, line)
-        for words in (["help", "nothing"], ["help", "watch"]):
+        for words in (["help", "nothing"], ["help", "crew"]):
             status, output, errors = support.launched(words)
             self.assertEqual((status, output), (2, b""))
             self.assertTrue(errors.startswith(b"psac: "))
@@ -217,16 +222,13 @@ class Pages(support.Case):
         for name in words.MODES:
             self.assertIn(f"\n  {name} ", self.page("help"))
         page = self.page("script")
-        for name in commands.PRESENT:
-            self.assertIn(f"\n  {commands.COMMANDS[name].form} ", page)
-        if commands.LATER:
-            self.assertIn(f"\nNot there yet, and refused: {', '.join(commands.LATER)}.\n", page)
-        self.assertEqual("Not there yet" in page, bool(commands.LATER))
+        for it in commands.COMMANDS.values():
+            self.assertIn(f"\n  {it.form} ", page)
         for word in tokens.RESERVED:
             self.assertRegex(self.page("language"), rf"\b{word}\b")
 
-    def test_what_is_refused_today(self):
-        # The front says of a command that it isn't there yet exactly where the program refuses it, and of no mode.
+    def test_what_the_front_knows_is_there(self):
+        # The program refuses none of the front's modes, and none of its commands as no command.
         from front import commands, words
 
         self.save_double()
@@ -237,4 +239,4 @@ class Pages(support.Case):
             line = {"hold": "hold 0 out 0", "held": "held 0"}.get(name, line)
             self.assertRegex(line, f"^{commands.COMMANDS[name].pattern}$")
             output = support.bare(["session", "double.psac", "cells.txt"], self.folder, f"commit\n{line}\n".encode())[1]
-            self.assertEqual(b"refused form" in output, name in commands.LATER, name)
+            self.assertNotIn(b"refused form", output, name)

@@ -94,7 +94,10 @@ class Session(Prompt):
             ("set 0 0", b"refused form"),
             ("rows 999999999", b"refused range"),
             ("show", b"none"),
-            ("hold 0 out 0", b"refused form"),
+            ("hold 0 out 9", b"refused range"),
+            ("held 0", b"refused empty"),
+            ("hold 0 out 0", None),
+            ("held 0", b"none"),
             ("tree", b"none"),
         ):
             lines = self.reply(line).split(b"\r\n")[:-1]
@@ -137,7 +140,7 @@ class Session(Prompt):
         self.reply("rows 1")
         self.assertIn(b"hint:   row 0, column 0: nil, an empty cell", self.reply("commit"))
         self.assertIn(b"hint: there is no command comit; there is commit\r\n", self.reply("comit"))
-        self.assertIn(b"hint: held isn't there yet", self.reply("held 0"))
+        self.assertIn(b"hint: that place holds nothing", self.reply("held 0"))
         self.assertIn(b"there is room for 3 rows", self.reply("rows 4"))
         self.end()
 
@@ -148,11 +151,11 @@ class Session(Prompt):
             for part in (b"set R C FIELD", b"rows N", b"commit", b"show", b"tree", b"quit", b"autoshow", b"Ctrl-C"):
                 self.assertIn(part, seen)
             self.assertNotIn(b"refused", seen)
-            self.assertNotIn(b"hold", seen)
+            self.assertIn(b"hold H out I", seen)
         for line in ("help commit", "? commit"):
             self.assertIn(b"commit: puts what is staged into the grid", self.reply(line))
         self.assertIn(b"There is no command 'comit'. There is commit.", self.reply("help comit"))
-        self.assertIn(b"hold isn't there yet", self.reply("help hold"))
+        self.assertIn(b"hold H snd G", self.reply("help hold"))
         self.end()
 
     def test_colour(self):
@@ -294,9 +297,8 @@ class Keys(Prompt):
         self.at_prompt()
         self.terminal.type(b"\t\t")
         seen = self.terminal.until(PROMPT)
-        for name in (b"autoshow", b"commit", b"help", b"quit", b"rows", b"set", b"show", b"tree"):
+        for name in (b"autoshow", b"commit", b"held", b"help", b"hold", b"quit", b"rows", b"set", b"show", b"tree"):
             self.assertIn(name, seen)
-        self.assertNotIn(b"hold", seen)
         self.terminal.type(b"help se\t\n")
         self.assertIn(b"stages a value", self.terminal.until(PROMPT))
         self.end()
