@@ -65,7 +65,7 @@ COMMANDS = {
     ),
     "hold": Command(
         "hold H out I",
-        "holds output I at place H, or what is reached from another place",
+        "holds output I at place H, or what a place leads to",
         "What is held is output I, or what the value at place G refers to, or the first\n"
         "or the second one of the pair there. There are 64 places, from 0 on.\n"
         "  hold H out I\n  hold H ref G\n  hold H fst G\n  hold H snd G",
