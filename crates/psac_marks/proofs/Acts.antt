@@ -1,6 +1,5 @@
 -- What each step of one pass allows.
-use Rattle.std.proofs.Common.{◌≡◌, ◌≢◌, ℕ, ◌+◌, ◌*◌, ◌%◌, ◌^◌, ◌<◌, List, map, set, true, refl, sym, ap, ◌∙◌, subst, ⊎_elim, arith, Option, Some, None}
-use Rattle.psac_marks.proofs.Terms.{slice_index, set-get_or, cases_eq, some, none as vacant, get_elem?, State, Allows, keeps, step, at_map, set_again, Handle, Member, times, sum_at, StateView, MarksView, mark_at, parent_at, state_at, parent_word, Place, places, claims_of, tree_of, Raising, marks_of, states_of, Has, HasOwn, marks, Marked, drew, Drew, Lacks, Tells, Loaded, Settled, hung, Hung, stated, Stated, raised, Raised, cleared, Cleared, asked, Asked, detached, Detached, MayRaise, entry_at, later_member}
+use Rattle.psac_marks.proofs.Terms.{◌≡◌, ◌≢◌, ℕ, ◌+◌, ◌*◌, ◌%◌, ◌^◌, ◌<◌, List, map, set, true, refl, sym, ap, ◌∙◌, subst, ⊎_elim, arith, Option, Some, None, slice_index, set-get_or, cases_eq, some, none as vacant, get_elem?, State, Allows, keeps, step, at_map, set_again, Handle, Member, times, sum_at, StateView, MarksView, mark_at, parent_at, state_at, parent_word, Place, places, claims_of, tree_of, Raising, marks_of, states_of, Has, HasOwn, marks, Marked, drew, Drew, Lacks, Tells, Loaded, Settled, hung, Hung, stated, Stated, raised, Raised, cleared, Cleared, asked, Asked, detached, Detached, MayRaise, entry_at, later_member}
 use Rattle.psac_slots.specs.Claiming as claiming
 use Rattle.psac_slots.proofs.Acts as slots
 use Rattle.psac_marks.proofs.Keeps.{undrawn, held_low, place_low, lacks, unmarked, undropped, drops_own, shared_kept, one_parent, count_is, own_alone, own_mark, draws_at, raises_first, raises_second, clears_at, counts_at, detaches_at, states_at, hangs_at}

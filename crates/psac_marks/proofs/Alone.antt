@@ -1,6 +1,5 @@
 -- What a sole pass knows of the table.
-use Rattle.std.proofs.Common.{◌≡◌, ◌≢◌, ℕ, ◌*◌, ◌<◌, List, [], map, length, drop, true, false, true≢false, refl, sym, ap, ◌∙◌, subst, ⊎_elim, arith}
-use Rattle.psac_marks.proofs.Terms.{none_in, dropped_at, at_mapped, lt-ltb, cases_eq, some, some-injective, get_elem?, at_map, Member, slot_times, once_below, ClaimView, bit, found, SharedView, MarksView, state_at, Place, places, claims_of, rights_of, tree_of, held_times, Marked}
+use Rattle.psac_marks.proofs.Terms.{◌≡◌, ◌≢◌, ℕ, ◌*◌, ◌<◌, List, [], map, length, drop, true, false, true≢false, refl, sym, ap, ◌∙◌, subst, ⊎_elim, arith, none_in, dropped_at, at_mapped, lt-ltb, cases_eq, some, some-injective, get_elem?, at_map, Member, slot_times, once_below, ClaimView, bit, found, SharedView, MarksView, state_at, Place, places, claims_of, rights_of, tree_of, held_times, Marked}
 use Rattle.psac_slots.proofs.Rewinds as turns
 use Rattle.psac_marks.proofs.Parts.{each_place}
 use Rattle.psac_marks.proofs.Keeps.{held_is}

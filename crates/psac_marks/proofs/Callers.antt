@@ -1,6 +1,5 @@
 -- What a caller needs of claims, raises, forks and joins.
-use Rattle.std.proofs.Common.{◌≡◌, ℕ, List, [], ◌∷◌, ◌++◌, map, length, Bool, true, false, refl, sym, ap, ◌∙◌, subst, inl, inr, ⊎_elim, arith, Option, Some, None}
-use Rattle.psac_marks.proofs.Terms.{filter, not, le-ltb, Handle, stem, Member, comes_back as returns, lends, times, stem_push, member_left, member_right, map_member, filter_member, OwnView, SharedView, MarksView, Place, own_place, shared_place, places, ways, now_shared, joined, Owns, Keeps, IsKept, IsBusy, Leads, Claims, took}
+use Rattle.psac_marks.proofs.Terms.{◌≡◌, ℕ, List, [], ◌∷◌, ◌++◌, map, length, Bool, true, false, refl, sym, ap, ◌∙◌, subst, inl, inr, ⊎_elim, arith, Option, Some, None, filter, not, le-ltb, Handle, stem, Member, comes_back as returns, lends, times, stem_push, member_left, member_right, map_member, filter_member, OwnView, SharedView, MarksView, Place, own_place, shared_place, places, ways, now_shared, joined, Owns, Keeps, IsKept, IsBusy, Leads, Claims, took}
 use Rattle.psac_marks.proofs.Parts.{each_place, place_own, place_shared}
 
 -- a path stays where nodes and marks only come, and none is dropped

@@ -1,6 +1,5 @@
 -- A climb, node by node.
-use Rattle.std.proofs.Common.{◌≡◌, ◌≢◌, ◌⊎◌, ℕ, zero, suc, ◌-◌, ◌<◌, ◌≤◌, List, [], ◌∷◌, ◌++◌, length, refl, sym, ap, ◌∙◌, subst, inl, inr, ⊎_elim, arith, Option, Some, None, cond, append_assoc, append-nil, length-append}
-use Rattle.psac_marks.proofs.Terms.{none_some, same_some as some_same, eq-eqb, ne_eqb, cases_eq, ◌==◌, sum_by, sum_by-append, sum_by-cons, Member, times, MarksView, parent_word, Place, places, raised, climbs_from, IsBusy, IsKept, Leads, Rises, RaisedOne, MayRaise, climbed, one_of, bit}
+use Rattle.psac_marks.proofs.Terms.{◌≡◌, ◌≢◌, ◌⊎◌, ℕ, zero, suc, ◌-◌, ◌<◌, ◌≤◌, List, [], ◌∷◌, ◌++◌, length, refl, sym, ap, ◌∙◌, subst, inl, inr, ⊎_elim, arith, Option, Some, None, append_assoc, append-nil, length-append, cond, none_some, same_some as some_same, eq-eqb, ne_eqb, cases_eq, ◌==◌, sum_by, sum_by-append, sum_by-cons, Member, times, MarksView, parent_word, Place, places, raised, climbs_from, IsBusy, IsKept, Leads, Rises, RaisedOne, MayRaise, climbed, one_of, bit}
 use Rattle.psac_marks.proofs.Parts.{times_push, bit_same}
 
 -- how many places are of nodes whose mark the pass doesn't have

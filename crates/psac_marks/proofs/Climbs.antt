@@ -1,6 +1,5 @@
 -- What steps make of the marks.
-use Rattle.std.proofs.Common.{◌≡◌, ◌≢◌, ℕ, ◌+◌, ◌*◌, ◌<◌, List, [], ◌∷◌, ◌++◌, length, set, refl, sym, ap, ◌∙◌, subst, inl, inr, ⊎_elim, arith, Option, Some, None}
-use Rattle.psac_marks.proofs.Terms.{none_some, same_some as some_same, ◌==◌, filter, cases_eq, some, some-injective, get_elem?, set_here, set_else, Member, times, bit, sum_set, all_set, mark_at, Place, Raising, Has, marks, Supported, Climbing, climbs_from, other}
+use Rattle.psac_marks.proofs.Terms.{◌≡◌, ◌≢◌, ℕ, ◌+◌, ◌*◌, ◌<◌, List, [], ◌∷◌, ◌++◌, length, set, refl, sym, ap, ◌∙◌, subst, inl, inr, ⊎_elim, arith, Option, Some, None, none_some, same_some as some_same, ◌==◌, filter, cases_eq, some, some-injective, get_elem?, set_here, set_else, Member, times, bit, sum_set, all_set, mark_at, Place, Raising, Has, marks, Supported, Climbing, climbs_from, other}
 use Rattle.psac_marks.proofs.Parts.{here, times_push, times_gone, times_else, bit_same, bit_other}
 
 -- a store beside the marks

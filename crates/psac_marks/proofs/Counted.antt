@@ -1,6 +1,5 @@
 -- How often a node stands in a list.
-use Rattle.std.proofs.Common.{◌≡◌, ◌⊎◌, ℕ, ◌+◌, ◌<◌, ◌≤◌, List, [], ◌∷◌, ◌++◌, Bool, true, false, cond, refl, ap, inl, inr, ⊎_elim, arith}
-use Rattle.psac_marks.proofs.Terms.{◌==◌, sum_by-cons, sum_by-append, eq-eqb, eqb-true, Member, times, bit}
+use Rattle.psac_marks.proofs.Terms.{◌≡◌, ◌⊎◌, ℕ, ◌+◌, ◌<◌, ◌≤◌, List, [], ◌∷◌, ◌++◌, Bool, true, false, refl, ap, inl, inr, ⊎_elim, arith, cond, ◌==◌, sum_by-cons, sum_by-append, eq-eqb, eqb-true, Member, times, bit}
 pub use Rattle.psac_marks.proofs.Parts.{times_in, times_out}
 
 pub times_both : (x : ℕ) (xs ys : List ℕ) → times x (xs ++ ys) ≡ times x xs + times x ys

@@ -1,6 +1,5 @@
 -- The children of an own node are the same pass's own.
-use Rattle.std.proofs.Common.{◌≡◌, ◌≢◌, ℕ, ◌<◌, List, map, length, true, true≢false, sym, ap, ◌∙◌, subst, refl, ⊎_elim, arith, Some, None}
-use Rattle.psac_marks.proofs.Terms.{at_mapped, none_some, same_some as some_same, cases_eq, some, some-injective, get_elem?, at_map, is_prefix, Member, times, prefix_short_length, prefix_through, OwnView, SharedView, MarksView, Place, own_place, shared_place, places, claims_of, rights_of, tree_of, HasOwn, Raising, Marked, marks, marks_of, IsClosed, Bare}
+use Rattle.psac_marks.proofs.Terms.{◌≡◌, ◌≢◌, ℕ, ◌<◌, List, map, length, true, true≢false, sym, ap, ◌∙◌, subst, refl, ⊎_elim, arith, Some, None, at_mapped, none_some, same_some as some_same, cases_eq, some, some-injective, get_elem?, at_map, is_prefix, Member, times, prefix_short_length, prefix_through, OwnView, SharedView, MarksView, Place, own_place, shared_place, places, claims_of, rights_of, tree_of, HasOwn, Raising, Marked, marks, marks_of, IsClosed, Bare}
 use Rattle.psac_marks.proofs.Parts.{place_own, place_cases}
 use Rattle.psac_marks.proofs.Keeps.{own_alone, own_mark}
 

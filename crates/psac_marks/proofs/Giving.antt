@@ -1,6 +1,5 @@
 -- A sole pass gives a node back.
-use Rattle.std.proofs.Common.{◌≡◌, ◌≢◌, ℕ, ◌+◌, ◌<◌, ◌≤◌, List, [], ◌∷◌, ◌++◌, map, length, set, true, refl, sym, ap, ◌∙◌, subst, inl, ⊎_elim, arith, Option, Some, None, length-set, mod-lt}
-use Rattle.psac_marks.proofs.Terms.{at_mapped, none_some, filter, not, ◌==◌, eq-eqb, ne_eqb, cases_eq, some, none as vacant, get_elem?, State, Allows, keeps, step, at_map, at_set, Handle, Member, word_of, later, slot_times, removed, times, Divided, sole_parts, one_given, filtered, sum_set, all_set, at_new, member_filter, filter_member, member_times, removed_gone, removed_else, off, changes, OwnView, SharedView, StateView, MarksView, state_at, free_word, Place, own_place, places, claims_of, handle_of, ways, rights_of, Grown, tree_of, Raising, marks_of, Stating, states_of, Has, HasOwn, held_times, Tree, marks, Supported, Climbing, IsStated, AreStated, Marked, other, other_own, other_state, gave, Gave, Childless}
+use Rattle.psac_marks.proofs.Terms.{◌≡◌, ◌≢◌, ℕ, ◌+◌, ◌<◌, ◌≤◌, List, [], ◌∷◌, ◌++◌, map, length, set, true, refl, sym, ap, ◌∙◌, subst, inl, ⊎_elim, arith, Option, Some, None, length-set, mod-lt, at_mapped, none_some, filter, not, ◌==◌, eq-eqb, ne_eqb, cases_eq, some, none as vacant, get_elem?, State, Allows, keeps, step, at_map, at_set, Handle, Member, word_of, later, slot_times, removed, times, Divided, sole_parts, one_given, filtered, sum_set, all_set, at_new, member_filter, filter_member, member_times, removed_gone, removed_else, off, changes, OwnView, SharedView, StateView, MarksView, state_at, free_word, Place, own_place, places, claims_of, handle_of, ways, rights_of, Grown, tree_of, Raising, marks_of, Stating, states_of, Has, HasOwn, held_times, Tree, marks, Supported, Climbing, IsStated, AreStated, Marked, other, other_own, other_state, gave, Gave, Childless}
 use Rattle.psac_slots.specs.Claiming as claiming
 use Rattle.psac_slots.proofs.Rewinds as turns
 use Rattle.psac_marks.proofs.Parts.{each_place, each_has, has_own, new_part, times_gone, times_else, place_own}

@@ -1,6 +1,5 @@
 -- All nodes are given back, one after another.
-use Rattle.std.proofs.Common.{◌≡◌, ◌≢◌, ℕ, suc, ◌<◌, ◌≤◌, List, [], ◌∷◌, ◌++◌, map, Bool, true, false, ltb, sym, ap, ◌∙◌, subst, ⊎_elim, arith, append_assoc, append-nil}
-use Rattle.psac_marks.proofs.Terms.{filter, not, ◌==◌, map-append, ne_eqb, lt-ltb, le-ltb, cases_lt, Handle, Member, later, slot_times, removed, only, by_slot, times, map_member, member_filter, filter_member, member_times, found, filter_twice, filter_all, filter_none, from_next, from_here, only_one, only_none, removed_none, OwnView, StateView, MarksView, handle_of, HasOwn, Holds, other, other_own, other_state, dropping, released, gave_all, Carries, Childless}
+use Rattle.psac_marks.proofs.Terms.{◌≡◌, ◌≢◌, ℕ, suc, ◌<◌, ◌≤◌, List, [], ◌∷◌, ◌++◌, map, Bool, true, false, ltb, sym, ap, ◌∙◌, subst, ⊎_elim, arith, append_assoc, append-nil, filter, not, ◌==◌, map-append, ne_eqb, lt-ltb, le-ltb, cases_lt, Handle, Member, later, slot_times, removed, only, by_slot, times, map_member, member_filter, filter_member, member_times, found, filter_twice, filter_all, filter_none, from_next, from_here, only_one, only_none, removed_none, OwnView, StateView, MarksView, handle_of, HasOwn, Holds, other, other_own, other_state, dropping, released, gave_all, Carries, Childless}
 use Rattle.psac_marks.proofs.Counted.{times_both, times_member, times_in}
 
 abbrev pub node_from : ℕ → ℕ → Bool

@@ -1,6 +1,5 @@
 -- What the rule says of one view, and of a pass that is the only one.
-use Rattle.std.proofs.Common.{◌≡◌, ◌≢◌, ℕ, List, [], map, true, false, true≢false, refl, sym, ap, ◌∙◌, subst, ⊎_elim, arith, Some}
-use Rattle.psac_marks.proofs.Terms.{at_mapped, cases_eq, some, some-injective, get_elem?, at_map, Handle, ClaimView, is_prefix, Member, slot_times, IsDistinct, sole_parts, same_slot, member_times, at_most_once, sum_at, OwnView, MarksView, Place, own_place, places, claims_of, rights_of, Grown, tree_of, marks_of, Has, HasOwn, Marked, Holds}
+use Rattle.psac_marks.proofs.Terms.{◌≡◌, ◌≢◌, ℕ, List, [], map, true, false, true≢false, refl, sym, ap, ◌∙◌, subst, ⊎_elim, arith, Some, at_mapped, cases_eq, some, some-injective, get_elem?, at_map, Handle, ClaimView, is_prefix, Member, slot_times, IsDistinct, sole_parts, same_slot, member_times, at_most_once, sum_at, OwnView, MarksView, Place, own_place, places, claims_of, rights_of, Grown, tree_of, marks_of, Has, HasOwn, Marked, Holds}
 use Rattle.psac_marks.proofs.Parts.{each_place, each_has, place_own}
 use Rattle.psac_marks.proofs.Alone.{dead, nothing_shared, holds_own}
 

@@ -1,6 +1,5 @@
 -- Each step of one pass keeps the rule of marks.
-use Rattle.std.proofs.Common.{◌≡◌, ◌≢◌, ◌⊎◌, ℕ, suc, ◌+◌, ◌*◌, ◌%◌, ◌^◌, ◌<◌, ◌≤◌, List, [], ◌∷◌, ◌++◌, map, length, set, drop, true, cond, refl, sym, ap, ◌∙◌, subst, inl, inr, ⊎_elim, arith, Option, Some, None, length-set}
-use Rattle.psac_marks.proofs.Terms.{at_mapped, sum_map, undrawn_slot, slot_below, first_same, ◌==◌, sum_by, IfSome, eq-eqb, ne_eqb, cases_eq, some, some-injective, get_elem?, at_map, Handle, is_prefix, Member, slot_times, Rights, Divided, ClaimView, times, sum_set, sum_at, sum_two, sum_none, all_set, member_left, member_cases, member_map, map_member, entry_at, later_member, member_times, at_most_once, prefix_refl, changes, OwnView, SharedView, StateView, MarksView, mark_at, parent_at, state_at, parent_word, Place, own_place, shared_place, places, claims_of, handle_of, ways, rights_of, Grown, tree_of, Raising, marks_of, Stating, states_of, Has, HasOwn, held_times, Tree, marks, Supported, Climbing, AreStated, Meeting, Marked, new_own, drew, Lacks, hang, hung, stated, raised, cleared, detached, MayRaise}
+use Rattle.psac_marks.proofs.Terms.{◌≡◌, ◌≢◌, ◌⊎◌, ℕ, suc, ◌+◌, ◌*◌, ◌%◌, ◌^◌, ◌<◌, ◌≤◌, List, [], ◌∷◌, ◌++◌, map, length, set, drop, true, refl, sym, ap, ◌∙◌, subst, inl, inr, ⊎_elim, arith, Option, Some, None, length-set, cond, at_mapped, sum_map, undrawn_slot, slot_below, first_same, ◌==◌, sum_by, IfSome, eq-eqb, ne_eqb, cases_eq, some, some-injective, get_elem?, at_map, Handle, is_prefix, Member, slot_times, Rights, Divided, ClaimView, times, sum_set, sum_at, sum_two, sum_none, all_set, member_left, member_cases, member_map, map_member, entry_at, later_member, member_times, at_most_once, prefix_refl, changes, OwnView, SharedView, StateView, MarksView, mark_at, parent_at, state_at, parent_word, Place, own_place, shared_place, places, claims_of, handle_of, ways, rights_of, Grown, tree_of, Raising, marks_of, Stating, states_of, Has, HasOwn, held_times, Tree, marks, Supported, Climbing, AreStated, Meeting, Marked, new_own, drew, Lacks, hang, hung, stated, raised, cleared, detached, MayRaise}
 use Rattle.psac_slots.specs.Claiming as claiming
 use Rattle.psac_slots.proofs.Keeps as laws
 use Rattle.psac_marks.proofs.Parts.{each_place, each_has, has_own, has_shared, drew_has, same_part, new_part, place_own, place_shared}

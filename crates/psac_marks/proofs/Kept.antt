@@ -1,6 +1,5 @@
 -- What the rule of marks gives.
-use Rattle.std.proofs.Common.{◌≡◌, ◌≢◌, ◌⊎◌, ℕ, ◌<◌, List, [], ◌∷◌, map, set, true, true≢false, refl, sym, ap, ◌∙◌, subst, inl, inr, ⊎_elim, arith, Some, None}
-use Rattle.psac_marks.proofs.Terms.{at_mapped, none_some, cases_eq, cases_lt, sum_by-cons, some, some-injective, get_elem?, at_map, Member, Own, Beside, times, sum_set, sum_none, all_set, OwnView, MarksView, parent_word, Place, places, claims_of, rights_of, tree_of, Raising, marks_of, marks, HasOwn, Marked, spent, holders, Promised}
+use Rattle.psac_marks.proofs.Terms.{◌≡◌, ◌≢◌, ◌⊎◌, ℕ, ◌<◌, List, [], ◌∷◌, map, set, true, true≢false, refl, sym, ap, ◌∙◌, subst, inl, inr, ⊎_elim, arith, Some, None, at_mapped, none_some, cases_eq, cases_lt, sum_by-cons, some, some-injective, get_elem?, at_map, Member, Own, Beside, times, sum_set, sum_none, all_set, OwnView, MarksView, parent_word, Place, places, claims_of, rights_of, tree_of, Raising, marks_of, marks, HasOwn, Marked, spent, holders, Promised}
 use Rattle.psac_slots.proofs.Kept as slots
 use Rattle.psac_marks.proofs.Parts.{each_has}
 use Rattle.psac_marks.proofs.Keeps.{place_low, held_is, lacks}

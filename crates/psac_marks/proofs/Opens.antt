@@ -1,6 +1,5 @@
 -- The words at the start meet the rule of marks.
-use Rattle.std.proofs.Common.{◌≡◌, ℕ, zero, suc, ◌+◌, ◌*◌, ◌<◌, ◌≤◌, [], ◌∷◌, ◌++◌, map, length, refl, sym, ap, ◌∙◌, subst, ⊎_elim, arith, None, length-append}
-use Rattle.psac_marks.proofs.Terms.{at_past, ring_length, fresh_at, none_some, IfSome, cases_lt, at_longer, some, get_elem?, Member, word_of, fresh, Own, Rights, length-fresh, OwnView, SharedView, MarksView, Place, Grown, Raising, Stating, rights_of, tree_of, marks_of, states_of, ways, Meeting, Marked, first_view, blank, first_words, Carries}
+use Rattle.psac_marks.proofs.Terms.{◌≡◌, ℕ, zero, suc, ◌+◌, ◌*◌, ◌<◌, ◌≤◌, [], ◌∷◌, ◌++◌, map, length, refl, sym, ap, ◌∙◌, subst, ⊎_elim, arith, None, length-append, at_past, ring_length, fresh_at, none_some, IfSome, cases_lt, at_longer, some, get_elem?, Member, word_of, fresh, Own, Rights, length-fresh, OwnView, SharedView, MarksView, Place, Grown, Raising, Stating, rights_of, tree_of, marks_of, states_of, ways, Meeting, Marked, first_view, blank, first_words, Carries}
 use Rattle.psac_slots.proofs.Opens as slots
 
 pub length-blank : (n : ℕ) → length (blank n) ≡ 3 * n

@@ -1,6 +1,5 @@
 -- Lists of nodes, places of views, and parts of the rule that a step leaves alone.
-use Rattle.std.proofs.Common.{◌≡◌, ◌≢◌, ◌⊎◌, ℕ, ◌+◌, List, [], ◌∷◌, ◌++◌, map, set, Bool, true, false, true≢false, cond, refl, sym, ap, ◌∙◌, subst, inl, inr, ⊎_elim, arith}
-use Rattle.psac_marks.proofs.Terms.{Has, drew, new_own, entry, filter, not, ◌==◌, map-set, sum_by-cons, sum_by_push, eq-eqb, ne_eqb, some, get_elem?, at_map, set_again, Member, times, bit, member_left, member_right, member_cases, member_map, map_member, OwnView, SharedView, MarksView, Place, own_place, shared_place, places, other}
+use Rattle.psac_marks.proofs.Terms.{◌≡◌, ◌≢◌, ◌⊎◌, ℕ, ◌+◌, List, [], ◌∷◌, ◌++◌, map, set, Bool, true, false, true≢false, refl, sym, ap, ◌∙◌, subst, inl, inr, ⊎_elim, arith, cond, Has, drew, new_own, entry, filter, not, ◌==◌, map-set, sum_by-cons, sum_by_push, eq-eqb, ne_eqb, some, get_elem?, at_map, set_again, Member, times, bit, member_left, member_right, member_cases, member_map, map_member, OwnView, SharedView, MarksView, Place, own_place, shared_place, places, other}
 pub use Rattle.psac_slots.proofs.Tables.{set_there as here}
 
 -- a part of the rule stays where what it reads of the view does

@@ -1,6 +1,5 @@
 -- A sole pass learns the counter, and sets it back.
-use Rattle.std.proofs.Common.{◌≡◌, ℕ, ◌+◌, List, [], map, set, take, drop, length, true, refl, sym, ap, ◌∙◌, subst, arith, Some, length-set}
-use Rattle.psac_marks.proofs.Terms.{slice_index, set-get_or, some, none as vacant, get_elem?, State, Allows, keeps, step, at_map, Handle, Divided, sole_parts, slice_at, at_drop, MarksView, claims_of, ways, rights_of, tree_of, marks_of, Stating, states_of, Tree, Climbing, AreStated, Marked, regained, Regained, rewound, Rewound}
+use Rattle.psac_marks.proofs.Terms.{◌≡◌, ℕ, ◌+◌, List, [], map, set, take, drop, length, true, refl, sym, ap, ◌∙◌, subst, arith, Some, length-set, slice_index, set-get_or, some, none as vacant, get_elem?, State, Allows, keeps, step, at_map, Handle, Divided, sole_parts, slice_at, at_drop, MarksView, claims_of, ways, rights_of, tree_of, marks_of, Stating, states_of, Tree, Climbing, AreStated, Marked, regained, Regained, rewound, Rewound}
 use Rattle.psac_slots.specs.Claiming as claiming
 use Rattle.psac_slots.proofs.Rewinds as turns
 use Rattle.psac_marks.proofs.Parts.{same_part, new_part}

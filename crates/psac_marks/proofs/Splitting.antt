@@ -1,6 +1,5 @@
 -- Splits keep the rule.
-use Rattle.std.proofs.Common.{◌≡◌, ◌≢◌, ◌⊎◌, ℕ, ◌+◌, ◌<◌, ◌≤◌, List, [], ◌∷◌, ◌++◌, map, length, set, Bool, true, false, true≢false, ltb, refl, sym, ap, ◌∙◌, subst, inl, inr, ⊎_elim, arith, Option, Some, None}
-use Rattle.psac_marks.proofs.Terms.{at_mapped, none_some, filter, not, ◌&&◌, IfSome, sum_by_push, map-append, map-set, cases_eq, cases_Bool, cases_lt, lt-ltb, ltb-true, and_parts, some, some-injective, get_elem?, at_map, at_set, at_snoc, at_longer, at_last, set_else, Handle, is_prefix, Member, slot_times, times, Rights, Divided, stays, goes, lends, sum_set, all_set, all_end, prefix_refl, prefix_long, member_left, member_right, filter_member, map_member, one_after, is_off, divides, told_cases, on_left, on_right, prefix_short_length, OwnView, SharedView, StateView, MarksView, Place, own_place, shared_place, places, claims_of, handle_of, ways, rights_of, Grown, tree_of, Raising, marks_of, Stating, states_of, Has, HasOwn, Out, held_times, Tree, marks, Supported, Climbing, IsStated, AreStated, Meeting, Marked, goes_over, stays_here, now_shared, left_of, right_of, Parted}
+use Rattle.psac_marks.proofs.Terms.{◌≡◌, ◌≢◌, ◌⊎◌, ℕ, ◌+◌, ◌<◌, ◌≤◌, List, [], ◌∷◌, ◌++◌, map, length, set, Bool, true, false, true≢false, ltb, refl, sym, ap, ◌∙◌, subst, inl, inr, ⊎_elim, arith, Option, Some, None, at_mapped, none_some, filter, not, ◌&&◌, IfSome, sum_by_push, map-append, map-set, cases_eq, cases_Bool, cases_lt, lt-ltb, ltb-true, and_parts, some, some-injective, get_elem?, at_map, at_set, at_snoc, at_longer, at_last, set_else, Handle, is_prefix, Member, slot_times, times, Rights, Divided, stays, goes, lends, sum_set, all_set, all_end, prefix_refl, prefix_long, member_left, member_right, filter_member, map_member, one_after, is_off, divides, told_cases, on_left, on_right, prefix_short_length, OwnView, SharedView, StateView, MarksView, Place, own_place, shared_place, places, claims_of, handle_of, ways, rights_of, Grown, tree_of, Raising, marks_of, Stating, states_of, Has, HasOwn, Out, held_times, Tree, marks, Supported, Climbing, IsStated, AreStated, Meeting, Marked, goes_over, stays_here, now_shared, left_of, right_of, Parted}
 use Rattle.psac_slots.specs.Claiming as claiming
 use Rattle.psac_slots.proofs.Keeps as laws
 use Rattle.psac_marks.proofs.Parts.{each_place, each_has, has_own, has_shared, here, place_own, place_shared}

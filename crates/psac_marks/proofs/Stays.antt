@@ -1,6 +1,5 @@
 -- What steps make of the states.
-use Rattle.std.proofs.Common.{◌≡◌, ◌≢◌, ℕ, suc, ◌+◌, ◌*◌, ◌<◌, ◌≤◌, List, [], ◌∷◌, ◌++◌, map, length, set, cond, refl, sym, ap, ◌∙◌, subst, ⊎_elim, arith}
-use Rattle.psac_marks.proofs.Terms.{map-append, eq-eqb, ne_eqb, cases_eq, some, get_elem?, set_here, set_else, Handle, Member, all_set, member_cases, member_map, StateView, state_at, handle_of, Stating, IsStated, AreStated, new_state, put}
+use Rattle.psac_marks.proofs.Terms.{◌≡◌, ◌≢◌, ℕ, suc, ◌+◌, ◌*◌, ◌<◌, ◌≤◌, List, [], ◌∷◌, ◌++◌, map, length, set, refl, sym, ap, ◌∙◌, subst, ⊎_elim, arith, cond, map-append, eq-eqb, ne_eqb, cases_eq, some, get_elem?, set_here, set_else, Handle, Member, all_set, member_cases, member_map, StateView, state_at, handle_of, Stating, IsStated, AreStated, new_state, put}
 
 stated_else : (nodes : ℕ) (words : List ℕ) (i x : ℕ) (t : StateView) → state_at nodes t.of.slot ≢ i → IsStated nodes words t → IsStated nodes (set words i x) t
 stated_else nodes words i x t n p = record { low = p.low; stands = set_else words i (state_at nodes t.of.slot) x n ∙ p.stands }

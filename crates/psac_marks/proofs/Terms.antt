@@ -1,12 +1,5 @@
 -- What the proofs of this crate speak of: lists, tests and sums, handles and claims, and the words of its specs.
-pub use Rattle.atomic_table.proofs.Lists.{at_last, at_longer, at_map, at_set, at_snoc, set_again, set_else, set_here}
-pub use Rattle.atomic_table.specs.Table.{Allows, State, Step, keeps, step}
-pub use Rattle.std.proofs.lemmas.Bool.{and_parts, cases_Bool, cases_eq, cases_lt, eq-eqb, eqb-true, le-ltb, lt-ltb, ltb-true, ne_eqb}
-pub use Rattle.std.proofs.lemmas.List.{length-map, map-append, map-set, set-get_or}
-pub use Rattle.std.proofs.lemmas.List.Sums.{sum_by-append, sum_by-cons, sum_by_push}
-pub use Rattle.std.specs.Prelude.{IfSome, IsTrue, cond, filter, not, slice_index, sum_by, ◌&&◌, ◌==◌}
-pub use lib.ListN.{get_elem?}
-pub use mathlib.Core.Option.{none, some, some-injective, some-ne-none}
+pub use Rattle.psac_slots.proofs.Terms.{◌≡◌, ◌≢◌, ℕ, suc, ◌+◌, ◌*◌, ◌<◌, ◌≤◌, List, [], ◌∷◌, ◌++◌, map, length, set, refl, sym, ap, ◌∙◌, subst, ⊎_elim, arith, ◌/◌, ◌%◌, Bool, true, false, Option, Some, None, length-append, inl, length-set, mod-lt, ◌⊎◌, true≢false, inr, zero, ◌-◌, append_assoc, append-nil, ltb, ◌^◌, drop, take, is_some, at_last, at_longer, at_map, at_set, at_snoc, set_again, set_else, set_here, Allows, State, Step, keeps, step, and_parts, cases_Bool, cases_eq, cases_lt, eq-eqb, eqb-true, le-ltb, lt-ltb, ltb-true, ne_eqb, length-map, map-append, map-set, set-get_or, sum_by-append, sum_by-cons, sum_by_push, IfSome, IsTrue, cond, filter, not, slice_index, sum_by, ◌&&◌, ◌==◌, get_elem?, none, some, some-injective, some-ne-none, is_prefix, stem, Accounted, IsSole, counted, entry, place, times, turned, Beside, Divided, Own, Rights, above, comes_back, goes, lends, stays, by_slot, only, IsDistinct, IsHandle, Member, fresh, later, once_below, removed, slot_times, word_of, Pass}
 pub use Rattle.psac_ops.specs.declared.plain.Handle.{Handle}
 pub use Rattle.psac_slots.proofs.Acts.{one_given, slice_at, sole_parts}
 pub use Rattle.psac_slots.proofs.Carrying.{accounted_returned}
@@ -18,12 +11,6 @@ pub use Rattle.psac_slots.proofs.Rewinds.{gone_is, rest_is}
 pub use Rattle.psac_slots.proofs.Sums.{all_end, all_set, at_drop, at_new, bit, sum_at, sum_none, sum_set, sum_two}
 pub use Rattle.psac_slots.proofs.Tables.{at_mapped, at_past, dropped_at, first_same, fresh_at, handle_at, none_in, none_some, one_more, past_entry, place_is, ring_length, same_some, slot_below, sum_map, twice, undrawn as undrawn_slot, within}
 pub use Rattle.psac_slots.proofs.Turns.{prefix_long, prefix_refl, stem_push}
-pub use Rattle.psac_slots.specs.Branches.{is_prefix, stem}
-pub use Rattle.psac_slots.specs.Claiming.{Accounted, IsSole, counted, entry, place, times, turned}
-pub use Rattle.psac_slots.specs.Divided.{Beside, Divided, Own, Rights, above, comes_back, goes, lends, stays}
-pub use Rattle.psac_slots.specs.Given.{by_slot, only}
-pub use Rattle.psac_slots.specs.Handles.{IsDistinct, IsHandle, Member, fresh, later, once_below, removed, slot_times, word_of}
-pub use Rattle.psac_slots.specs.Passes.{Pass}
 pub use Rattle.psac_slots.specs.declared.view.ClaimView.{ClaimView}
 pub use Rattle.psac_marks.specs.Marked.{AreStated, Climbing, Grown, Has, HasOwn, IsStated, Marked, Meeting, Out, Place, Raising, Stating, Supported, Tree, claims_of, free_word, handle_of, held_times, mark_at, marks, marks_of, out_word, own_place, parent_at, parent_word, places, rights_of, shared_place, state_at, states_of, tree_of, ways}
 pub use Rattle.psac_marks.specs.Passes.{Bare, Carries, Childless, Claims, IsBusy, IsKept, Keeps, Leads, MayRaise, Owns, Parted, RaisedOne, Rises, United, climbed, one_of, slot_of, took}

@@ -1,6 +1,5 @@
 -- What steps make of the tree.
-use Rattle.std.proofs.Common.{◌≡◌, ◌≢◌, ◌⊎◌, ℕ, ◌+◌, ◌*◌, ◌<◌, ◌≤◌, List, [], ◌∷◌, ◌++◌, map, length, set, Bool, true, cond, refl, sym, ap, ◌∙◌, subst, inl, inr, ⊎_elim, arith, Option, Some, None}
-use Rattle.psac_marks.proofs.Terms.{none_some, ◌==◌, sum_by-append, eq-eqb, ne_eqb, cases_eq, cases_lt, some, some-injective, get_elem?, at_set, set_here, set_else, Handle, is_prefix, Member, slot_times, times, bit, sum_set, sum_at, all_set, member_left, member_right, map_member, member_times, found, parent_at, parent_word, Place, Grown, Has, HasOwn, Out, held_times, Tree, new_own, hang}
+use Rattle.psac_marks.proofs.Terms.{◌≡◌, ◌≢◌, ◌⊎◌, ℕ, ◌+◌, ◌*◌, ◌<◌, ◌≤◌, List, [], ◌∷◌, ◌++◌, map, length, set, Bool, true, refl, sym, ap, ◌∙◌, subst, inl, inr, ⊎_elim, arith, Option, Some, None, cond, none_some, ◌==◌, sum_by-append, eq-eqb, ne_eqb, cases_eq, cases_lt, some, some-injective, get_elem?, at_set, set_here, set_else, Handle, is_prefix, Member, slot_times, times, bit, sum_set, sum_at, all_set, member_left, member_right, map_member, member_times, found, parent_at, parent_word, Place, Grown, Has, HasOwn, Out, held_times, Tree, new_own, hang}
 use Rattle.psac_marks.proofs.Parts.{here, times_push}
 
 -- what is out is held

@@ -1,6 +1,5 @@
 -- Joins keep the rule.
-use Rattle.std.proofs.Common.{◌≡◌, ◌≢◌, ◌⊎◌, ℕ, ◌<◌, ◌≤◌, List, [], ◌∷◌, ◌++◌, map, length, set, Bool, true, false, true≢false, cond, refl, sym, ap, ◌∙◌, subst, inl, inr, ⊎_elim, arith, Option, Some, None, length-append}
-use Rattle.psac_marks.proofs.Terms.{at_mapped, none_some, filter, not, ◌==◌, IfSome, sum_by-append, map-append, map-set, cases_eq, cases_Bool, cases_lt, some, some-injective, get_elem?, at_map, at_set, set_else, Handle, is_prefix, stem, Member, slot_times, times, Rights, Divided, above, comes_back, sum_set, all_set, prefix_refl, stem_push, member_left, member_right, member_cases, filter_member, map_member, Strangers, unites, alone_cases, is_above, shared_same, meets, prefix_cut, prefix_whole, prefix_short_length, prefix_through, OwnView, SharedView, StateView, MarksView, Place, own_place, shared_place, places, claims_of, handle_of, ways, rights_of, Grown, tree_of, Raising, marks_of, Stating, states_of, Has, HasOwn, Out, held_times, Tree, marks, Supported, Climbing, IsStated, AreStated, Meeting, Marked, Lacks, joined, met, spent, United}
+use Rattle.psac_marks.proofs.Terms.{◌≡◌, ◌≢◌, ◌⊎◌, ℕ, ◌<◌, ◌≤◌, List, [], ◌∷◌, ◌++◌, map, length, set, Bool, true, false, true≢false, refl, sym, ap, ◌∙◌, subst, inl, inr, ⊎_elim, arith, Option, Some, None, length-append, cond, at_mapped, none_some, filter, not, ◌==◌, IfSome, sum_by-append, map-append, map-set, cases_eq, cases_Bool, cases_lt, some, some-injective, get_elem?, at_map, at_set, set_else, Handle, is_prefix, stem, Member, slot_times, times, Rights, Divided, above, comes_back, sum_set, all_set, prefix_refl, stem_push, member_left, member_right, member_cases, filter_member, map_member, Strangers, unites, alone_cases, is_above, shared_same, meets, prefix_cut, prefix_whole, prefix_short_length, prefix_through, OwnView, SharedView, StateView, MarksView, Place, own_place, shared_place, places, claims_of, handle_of, ways, rights_of, Grown, tree_of, Raising, marks_of, Stating, states_of, Has, HasOwn, Out, held_times, Tree, marks, Supported, Climbing, IsStated, AreStated, Meeting, Marked, Lacks, joined, met, spent, United}
 use Rattle.psac_slots.specs.Claiming as claiming
 use Rattle.psac_slots.proofs.Keeps as laws
 use Rattle.psac_marks.proofs.Parts.{each_place, each_has, has_own, has_shared, here, place_own, place_shared}

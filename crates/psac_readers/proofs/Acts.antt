@@ -1,6 +1,5 @@
 -- Leaves and loads keep the rule, and what each step allows.
-use Rattle.std.proofs.Common.{◌≡◌, ◌≢◌, ℕ, suc, ◌+◌, ◌%◌, ◌^◌, ◌<◌, ◌≤◌, List, [], ◌∷◌, map, set, Bool, true, false, cond, refl, sym, ap, ◌∙◌, subst, ⊎_elim, arith, Some}
-use Rattle.psac_readers.proofs.Terms.{sum_map, same_some, sum_by, ◌==◌, slice_index, map-set, set-get_or, cases_eq, some, none as vacant, get_elem?, State, Allows, keeps, step, at_map, set_here, set_else, set_again, sole_parts, tells, sum_set, all_set, Stage, Claimed, UnderWay, LinkView, ReadersView, Member, head_at, next_at, dead_at, node_at, Follows, in_set, is_dead, is_live, dying, named, linked, alive, deads, Each, mods_of, claims_of, Staged, Knows, Placed, Tells, Readable, Has, Seat, drew, Drew, on_head, noded, Noded, swapped, Swapped, came, Came, left, Left, learned, front, IsSet, Began, Loaded, regained, Regained, rewound, Rewound}
+use Rattle.psac_readers.proofs.Terms.{◌≡◌, ◌≢◌, ℕ, suc, ◌+◌, ◌%◌, ◌^◌, ◌<◌, ◌≤◌, List, [], ◌∷◌, map, set, Bool, true, false, cond, refl, sym, ap, ◌∙◌, subst, ⊎_elim, arith, Some, sum_map, same_some, sum_by, ◌==◌, slice_index, map-set, set-get_or, cases_eq, some, none as vacant, get_elem?, State, Allows, keeps, step, at_map, set_here, set_else, set_again, sole_parts, tells, sum_set, all_set, Stage, Claimed, UnderWay, LinkView, ReadersView, Member, head_at, next_at, dead_at, node_at, Follows, in_set, is_dead, is_live, dying, named, linked, alive, deads, Each, mods_of, claims_of, Staged, Knows, Placed, Tells, Readable, Has, Seat, drew, Drew, on_head, noded, Noded, swapped, Swapped, came, Came, left, Left, learned, front, IsSet, Began, Loaded, regained, Regained, rewound, Rewound}
 use Rattle.psac_slots.specs.Claiming as claiming
 use Rattle.psac_slots.specs.Handles as handles
 use Rattle.psac_slots.proofs.Rewinds as turns

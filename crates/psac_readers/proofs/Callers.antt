@@ -1,6 +1,5 @@
 -- What a caller needs of forks and joins.
-use Rattle.std.proofs.Common.{◌≡◌, ℕ, List, [], ◌∷◌, ◌++◌, map, length, Bool, true, false, refl, ap, ◌∙◌, subst, inr, arith}
-use Rattle.psac_readers.proofs.Terms.{filter, not, le-ltb, stem, stem_push, WalkView, SharedView, ReadersView, Member, comes_back as returns, mods_of, ways, Has, left_of, right_of, joined, unknown, member_right, map_member, filter_member}
+use Rattle.psac_readers.proofs.Terms.{◌≡◌, ℕ, List, [], ◌∷◌, ◌++◌, map, length, Bool, true, false, refl, ap, ◌∙◌, subst, inr, arith, filter, not, le-ltb, stem, stem_push, WalkView, SharedView, ReadersView, Member, comes_back as returns, mods_of, ways, Has, left_of, right_of, joined, unknown, member_right, map_member, filter_member}
 use Rattle.psac_readers.proofs.Sides.{in_told}
 
 module _ (f g : ℕ → Bool) (v : ReadersView) (m : ℕ) (mine : Member m (mods_of v.walk)) where

@@ -1,6 +1,5 @@
 -- The views on the way of an enter.
-use Rattle.std.proofs.Common.{◌≡◌, ℕ, ◌+◌, ◌%◌, ◌<◌, List, [], ◌∷◌, ◌++◌, map, length, cond, refl, sym, ap, ◌∙◌, arith, subst, inl, inr, ⊎_elim}
-use Rattle.psac_readers.proofs.Terms.{handle_at, sum_by, sum_by-cons, eq-eqb, none as vacant, get_elem?, step, claimed_entry, LinkView, ReadersView, named, mods_of, Seat, new_link, drew, on_head, noded, swapped, came, entered, Loaded, Has, Carries, Member}
+use Rattle.psac_readers.proofs.Terms.{◌≡◌, ℕ, ◌+◌, ◌%◌, ◌<◌, List, [], ◌∷◌, ◌++◌, map, length, cond, refl, sym, ap, ◌∙◌, arith, subst, inl, inr, ⊎_elim, handle_at, sum_by, sum_by-cons, eq-eqb, none as vacant, get_elem?, step, claimed_entry, LinkView, ReadersView, named, mods_of, Seat, new_link, drew, on_head, noded, swapped, came, entered, Loaded, Has, Carries, Member}
 use Rattle.psac_slots.specs.Claiming as claiming
 use Rattle.psac_readers.proofs.Links.{mods_forget}
 use Rattle.psac_readers.proofs.Carrying.{renewed}

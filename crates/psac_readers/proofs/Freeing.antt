@@ -1,6 +1,5 @@
 -- What the steps of a sole pass that takes links off allow.
-use Rattle.std.proofs.Common.{◌≡◌, ℕ, suc, ◌+◌, ◌<◌, List, ◌∷◌, ◌++◌, length, set, true, sym, ap, ◌∙◌, subst, arith, Some}
-use Rattle.psac_readers.proofs.Terms.{sum_by, slice_index, none as vacant, State, Allows, keeps, step, at_map, Member, sole_parts, ReadersView, head_at, dead_at, named, alive, Each, mods_of, claims_of, Readable, revived, Revived, unlinked, Unlinked, freed, Freed, led_from, chain_of, front, Fine}
+use Rattle.psac_readers.proofs.Terms.{◌≡◌, ℕ, suc, ◌+◌, ◌<◌, List, ◌∷◌, ◌++◌, length, set, true, sym, ap, ◌∙◌, subst, arith, Some, sum_by, slice_index, none as vacant, State, Allows, keeps, step, at_map, Member, sole_parts, ReadersView, head_at, dead_at, named, alive, Each, mods_of, claims_of, Readable, revived, Revived, unlinked, Unlinked, freed, Freed, led_from, chain_of, front, Fine}
 use Rattle.psac_slots.specs.Handles as handles
 use Rattle.psac_slots.specs.Claiming as claiming
 use Rattle.psac_readers.proofs.Links.{is_there, chain_is}

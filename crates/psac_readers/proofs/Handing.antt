@@ -1,6 +1,5 @@
 -- The views on the way of a link that is given back.
-use Rattle.std.proofs.Common.{◌≡◌, ℕ, ◌+◌, ◌<◌, List, [], ◌∷◌, ◌++◌, map, length, Bool, true, false, cond, refl, ap, ◌∙◌, ⊎_elim, arith, length-append}
-use Rattle.psac_readers.proofs.Terms.{sum_map, sum_by, filter, not, ◌==◌, sum_by-cons, Handle, has_room, accounted_returned, Stage, LinkView, ReadersView, head_at, times, in_set, is_live, named, alive, Each, reviving, revive, revived, leaving, take_off, lose, unlinked, other_link, freed, swept_one, is_settled, Fine, led_from, IsSet, Carries}
+use Rattle.psac_readers.proofs.Terms.{◌≡◌, ℕ, ◌+◌, ◌<◌, List, [], ◌∷◌, ◌++◌, map, length, Bool, true, false, cond, refl, ap, ◌∙◌, ⊎_elim, arith, length-append, sum_map, sum_by, filter, not, ◌==◌, sum_by-cons, Handle, has_room, accounted_returned, Stage, LinkView, ReadersView, head_at, times, in_set, is_live, named, alive, Each, reviving, revive, revived, leaving, take_off, lose, unlinked, other_link, freed, swept_one, is_settled, Fine, led_from, IsSet, Carries}
 use Rattle.psac_slots.specs.Handles as handles
 use Rattle.psac_slots.specs.Claiming as claiming
 use Rattle.psac_readers.proofs.Links.{each_stage, restaged_fine, each_map, each_filter}

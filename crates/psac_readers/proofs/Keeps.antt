@@ -1,6 +1,5 @@
 -- Each step of an enter keeps the rule.
-use Rattle.std.proofs.Common.{◌≡◌, ◌≢◌, ◌⊎◌, ℕ, zero, suc, ◌+◌, ◌%◌, ◌^◌, ◌<◌, ◌≤◌, List, [], ◌∷◌, map, length, set, Bool, true, false, true≢false, cond, refl, sym, ap, ◌∙◌, subst, inl, inr, ⊎_elim, arith, Some, None, length-set}
-use Rattle.psac_readers.proofs.Terms.{none_some, slot_below, sum_map, sum_by, ◌==◌, slice_index, sum_by-cons, sum_by-append, map-set, cases_eq, eq-eqb, ne_eqb, some, some-ne-none, some-injective, get_elem?, at_map, set_here, set_else, set_again, ClaimView, Handle, sum_set, sum_at, sum_two, all_set, Claimed, LinkView, WalkView, SharedView, ReadersView, Member, Divided, at_most_once, head_at, next_at, dead_at, node_at, Follows, in_set, is_dead, named, linked, deads, times, Each, mods_of, claims_of, rights_of, ways, Knows, Placed, Seen, Tells, Readable, Has, new_link, drew, on_head, forget, way, swapped}
+use Rattle.psac_readers.proofs.Terms.{◌≡◌, ◌≢◌, ◌⊎◌, ℕ, zero, suc, ◌+◌, ◌%◌, ◌^◌, ◌<◌, ◌≤◌, List, [], ◌∷◌, map, length, set, Bool, true, false, true≢false, cond, refl, sym, ap, ◌∙◌, subst, inl, inr, ⊎_elim, arith, Some, None, length-set, none_some, slot_below, sum_map, sum_by, ◌==◌, slice_index, sum_by-cons, sum_by-append, map-set, cases_eq, eq-eqb, ne_eqb, some, some-ne-none, some-injective, get_elem?, at_map, set_here, set_else, set_again, ClaimView, Handle, sum_set, sum_at, sum_two, all_set, Claimed, LinkView, WalkView, SharedView, ReadersView, Member, Divided, at_most_once, head_at, next_at, dead_at, node_at, Follows, in_set, is_dead, named, linked, deads, times, Each, mods_of, claims_of, rights_of, ways, Knows, Placed, Seen, Tells, Readable, Has, new_link, drew, on_head, forget, way, swapped}
 use Rattle.psac_slots.specs.Claiming as claiming
 use Rattle.psac_slots.specs.Handles as handles
 use Rattle.psac_slots.proofs.Keeps as laws

@@ -1,6 +1,5 @@
 -- What the rule of reader sets gives.
-use Rattle.std.proofs.Common.{◌≡◌, ◌≢◌, ℕ, ◌≤◌, List, [], ◌∷◌, map, sym, ap, ◌∙◌, subst, ⊎_elim, arith}
-use Rattle.psac_readers.proofs.Terms.{sum_map, sum_by, cases_eq, some-injective, get_elem?, at_map, ClaimView, Member, at_most_once, sum_at, sum_two, LinkView, ReadersView, named, linked, deads, Each, claims_of, rights_of, Staged, Readable, Promised}
+use Rattle.psac_readers.proofs.Terms.{◌≡◌, ◌≢◌, ℕ, ◌≤◌, List, [], ◌∷◌, map, sym, ap, ◌∙◌, subst, ⊎_elim, arith, sum_map, sum_by, cases_eq, some-injective, get_elem?, at_map, ClaimView, Member, at_most_once, sum_at, sum_two, LinkView, ReadersView, named, linked, deads, Each, claims_of, rights_of, Staged, Readable, Promised}
 use Rattle.psac_slots.specs.Handles as handles
 use Rattle.psac_slots.proofs.Kept as slots
 use Rattle.psac_readers.proofs.Links.{stage_word, sum_under, linked_named, alive_deads}

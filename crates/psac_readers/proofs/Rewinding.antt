@@ -1,6 +1,5 @@
 -- A sole pass sets the counter back.
-use Rattle.std.proofs.Common.{◌≡◌, ℕ, ◌+◌, ◌≤◌, List, [], map, set, take, drop, length, true, refl, sym, ap, ◌∙◌, subst, arith, Some}
-use Rattle.psac_readers.proofs.Terms.{none_in, sum_map, sum_by, map-set, some, get_elem?, at_map, set_again, ClaimView, sum_set, sum_at, sum_none, all_set, LinkView, ReadersView, Handle, Member, WalkView, SharedView, named, linked, deads, times, Each, mods_of, claims_of, rights_of, Knows, Placed, Seen, Readable, spent, rewound, regained, Holds}
+use Rattle.psac_readers.proofs.Terms.{◌≡◌, ℕ, ◌+◌, ◌≤◌, List, [], map, set, take, drop, length, true, refl, sym, ap, ◌∙◌, subst, arith, Some, none_in, sum_map, sum_by, map-set, some, get_elem?, at_map, set_again, ClaimView, sum_set, sum_at, sum_none, all_set, LinkView, ReadersView, Handle, Member, WalkView, SharedView, named, linked, deads, times, Each, mods_of, claims_of, rights_of, Knows, Placed, Seen, Readable, spent, rewound, regained, Holds}
 use Rattle.psac_slots.specs.Claiming as claiming
 use Rattle.psac_slots.specs.Handles as handles
 use Rattle.psac_slots.proofs.Rewinds as turns

@@ -1,6 +1,5 @@
 -- A walk that takes links off.
-use Rattle.std.proofs.Common.{◌≡◌, ◌≢◌, ◌⊎◌, ℕ, suc, ◌+◌, ◌-◌, ◌<◌, ◌≤◌, List, [], ◌∷◌, ◌++◌, map, length, Bool, true, false, true≢false, cond, refl, sym, ap, ◌∙◌, subst, inl, ⊎_elim, arith, Some, append_assoc}
-use Rattle.psac_readers.proofs.Terms.{none_some, sum_by, filter, ◌==◌, eq-eqb, eqb-true, ne_eqb, cases_eq, cases_lt, sum_by-cons, Handle, ClaimView, Member, slot_times, removed, member_times, removed_gone, removed_else, Stage, LinkView, WalkView, ReadersView, head_at, next_at, in_set, is_live, named, linked, alive, deads, times, Each, mods_of, chain_of, learn, learned, front, behind, without, known_without, lose, other_link, swept_one, swept, IsSet, is_settled, Fine, Holds, from_word, or_empty, Walks, Placing, TakenOff, Going, remaining, AllGiven}
+use Rattle.psac_readers.proofs.Terms.{◌≡◌, ◌≢◌, ◌⊎◌, ℕ, suc, ◌+◌, ◌-◌, ◌<◌, ◌≤◌, List, [], ◌∷◌, ◌++◌, map, length, Bool, true, false, true≢false, cond, refl, sym, ap, ◌∙◌, subst, inl, ⊎_elim, arith, Some, append_assoc, none_some, sum_by, filter, ◌==◌, eq-eqb, eqb-true, ne_eqb, cases_eq, cases_lt, sum_by-cons, Handle, ClaimView, Member, slot_times, removed, member_times, removed_gone, removed_else, Stage, LinkView, WalkView, ReadersView, head_at, next_at, in_set, is_live, named, linked, alive, deads, times, Each, mods_of, chain_of, learn, learned, front, behind, without, known_without, lose, other_link, swept_one, swept, IsSet, is_settled, Fine, Holds, from_word, or_empty, Walks, Placing, TakenOff, Going, remaining, AllGiven}
 use Rattle.psac_slots.specs.Claiming as claiming
 use Rattle.psac_readers.proofs.Links.{each_filter, each_stage, mods_learn}
 use Rattle.psac_readers.proofs.Walking.{chain_learn, chain_named}

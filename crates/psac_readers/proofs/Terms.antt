@@ -1,12 +1,5 @@
 -- What the proofs of this crate speak of: lists, tests and sums, handles and claims, and the words of its specs.
-pub use Rattle.atomic_table.proofs.Lists.{at_last, at_longer, at_map, set_again, set_else, set_here}
-pub use Rattle.atomic_table.specs.Table.{Allows, State, Step, keeps, step}
-pub use Rattle.std.proofs.lemmas.Bool.{cases_Bool, cases_eq, cases_lt, eq-eqb, eqb-true, le-ltb, lt-ltb, ltb-true, ne_eqb}
-pub use Rattle.std.proofs.lemmas.List.{length-map, map-append, map-set, set-get_or}
-pub use Rattle.std.proofs.lemmas.List.Sums.{sum_by-append, sum_by-cons, sum_by_push}
-pub use Rattle.std.specs.Prelude.{IfErr, IfOk, IfSome, filter, not, slice_index, sum_by, ◌&&◌, ◌==◌}
-pub use lib.ListN.{get_elem?}
-pub use mathlib.Core.Option.{none, some, some-injective, some-ne-none}
+pub use Rattle.psac_slots.proofs.Terms.{◌≡◌, ◌≢◌, ◌⊎◌, ℕ, suc, ◌+◌, ◌-◌, ◌<◌, ◌≤◌, List, [], ◌∷◌, ◌++◌, map, length, Bool, true, false, true≢false, cond, refl, sym, ap, ◌∙◌, subst, inl, ⊎_elim, arith, Some, append_assoc, set, take, drop, inr, Option, None, length-set, ltb, ◌%◌, length-append, zero, ◌*◌, ◌^◌, mod-lt, div-add-mod', at_last, at_longer, at_map, set_again, set_else, set_here, Allows, State, Step, keeps, step, cases_Bool, cases_eq, cases_lt, eq-eqb, eqb-true, le-ltb, lt-ltb, ltb-true, ne_eqb, length-map, map-append, map-set, set-get_or, sum_by-append, sum_by-cons, sum_by_push, IfErr, IfOk, IfSome, filter, not, slice_index, sum_by, ◌&&◌, ◌==◌, get_elem?, none, some, some-injective, some-ne-none, stem, Accounted, IsSole, counted, entry, place, turned, Divided, Own, Rights, above, comes_back, goes, no_rights, stays, united, Member, fresh, removed, slot_times, word_of}
 pub use Rattle.psac_ops.specs.declared.plain.Handle.{Handle}
 pub use Rattle.psac_slots.proofs.Acts.{slice_at, sole_parts, tells}
 pub use Rattle.psac_slots.proofs.Carrying.{accounted_returned, has_room}
@@ -17,10 +10,6 @@ pub use Rattle.psac_slots.proofs.Rewinds.{gone_is, rest_is}
 pub use Rattle.psac_slots.proofs.Sums.{all_set, at_less, sum_at, sum_le, sum_none, sum_set, sum_two}
 pub use Rattle.psac_slots.proofs.Tables.{at_mapped, at_past, handle_at, none_in, none_some, one_more, place_is, ring_length, same_some, set_there, slot_below, sum_map, within}
 pub use Rattle.psac_slots.proofs.Turns.{stem_push}
-pub use Rattle.psac_slots.specs.Branches.{stem}
-pub use Rattle.psac_slots.specs.Claiming.{Accounted, IsSole, counted, entry, place, turned}
-pub use Rattle.psac_slots.specs.Divided.{Divided, Own, Rights, above, comes_back, goes, no_rights, stays, united}
-pub use Rattle.psac_slots.specs.Handles.{Member, fresh, removed, slot_times, word_of}
 pub use Rattle.psac_slots.specs.declared.full.Full.{Full}
 pub use Rattle.psac_slots.specs.declared.view.ClaimView.{ClaimView}
 pub use Rattle.psac_readers.specs.Chained.{Each, Follows, Knows, Placed, Readable, Seen, Staged, Tells, alive, claims_of, dead_at, deads, head_at, in_set, is_dead, is_live, labelled, linked, mods_of, named, next_at, node_at, rights_of, times, ways}

@@ -1,6 +1,5 @@
 -- A link is taken off its set.
-use Rattle.std.proofs.Common.{◌≡◌, ◌≢◌, ◌⊎◌, ℕ, suc, ◌+◌, ◌<◌, ◌≤◌, List, [], ◌∷◌, ◌++◌, map, set, Bool, true, false, cond, refl, sym, ap, ◌∙◌, subst, inl, inr, ⊎_elim, arith, Option, Some, None, length-set, append_assoc}
-use Rattle.psac_readers.proofs.Terms.{sum_map, same_some, sum_by, ◌==◌, eq-eqb, eqb-true, ne_eqb, cases_eq, some, get_elem?, set_here, set_else, Member, sum_set, all_set, Stage, LinkView, WalkView, ReadersView, head_at, next_at, dead_at, node_at, Follows, in_set, is_live, is_dead, named, linked, alive, deads, times, Each, mods_of, Staged, Knows, Placed, Seen, Tells, Readable, leaving, take_off, without, known_without, lose, unlinked, led_from, is_settled, Fine, front}
+use Rattle.psac_readers.proofs.Terms.{◌≡◌, ◌≢◌, ◌⊎◌, ℕ, suc, ◌+◌, ◌<◌, ◌≤◌, List, [], ◌∷◌, ◌++◌, map, set, Bool, true, false, cond, refl, sym, ap, ◌∙◌, subst, inl, inr, ⊎_elim, arith, Option, Some, None, length-set, append_assoc, sum_map, same_some, sum_by, ◌==◌, eq-eqb, eqb-true, ne_eqb, cases_eq, some, get_elem?, set_here, set_else, Member, sum_set, all_set, Stage, LinkView, WalkView, ReadersView, head_at, next_at, dead_at, node_at, Follows, in_set, is_live, is_dead, named, linked, alive, deads, times, Each, mods_of, Staged, Knows, Placed, Seen, Tells, Readable, leaving, take_off, without, known_without, lose, unlinked, led_from, is_settled, Fine, front}
 use Rattle.psac_slots.specs.Handles as handles
 use Rattle.psac_readers.proofs.Links.{each_stage, stage_if, stage_else, restaged_known, if_two, in_low, live_low, each_imp, each_map, each_named, sum_same, sum_plus, sum_under, only_here, linked_named, alive_deads, follows_else, knows_set, is_there, next_word, front_is}
 use Rattle.psac_readers.proofs.Walking.{all_whole}

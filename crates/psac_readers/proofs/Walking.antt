@@ -1,6 +1,5 @@
 -- A walk along a chain.
-use Rattle.std.proofs.Common.{◌≡◌, ◌≢◌, ◌⊎◌, ℕ, suc, ◌+◌, ◌-◌, ◌<◌, ◌≤◌, List, [], ◌∷◌, map, length, Bool, true, false, true≢false, cond, ltb, refl, sym, ap, ◌∙◌, subst, inl, inr, ⊎_elim, arith, Option, Some, None}
-use Rattle.psac_readers.proofs.Terms.{none_some, same_some, sum_by, ◌==◌, IfSome, sum_by-cons, eq-eqb, eqb-true, ne_eqb, lt-ltb, le-ltb, ltb-true, Stage, LinkView, ReadersView, named, linked, alive, deads, in_set, is_live, is_dead, times, Each, mods_of, WalkView, Member, Fine, is_settled, settled, front, behind, next_live, IsSet, chain_of, set_of, node_in, learn, Link, from_word, has_word, Walks, OnWalk, found}
+use Rattle.psac_readers.proofs.Terms.{◌≡◌, ◌≢◌, ◌⊎◌, ℕ, suc, ◌+◌, ◌-◌, ◌<◌, ◌≤◌, List, [], ◌∷◌, map, length, Bool, true, false, true≢false, cond, ltb, refl, sym, ap, ◌∙◌, subst, inl, inr, ⊎_elim, arith, Option, Some, None, none_some, same_some, sum_by, ◌==◌, IfSome, sum_by-cons, eq-eqb, eqb-true, ne_eqb, lt-ltb, le-ltb, ltb-true, Stage, LinkView, ReadersView, named, linked, alive, deads, in_set, is_live, is_dead, times, Each, mods_of, WalkView, Member, Fine, is_settled, settled, front, behind, next_live, IsSet, chain_of, set_of, node_in, learn, Link, from_word, has_word, Walks, OnWalk, found}
 use Rattle.psac_readers.proofs.Links.{each_stage, linked_named, sum_under}
 
 -- a word that names a link of the chain

@@ -1,6 +1,5 @@
 -- A whole walk lists the live links of its set.
-use Rattle.std.proofs.Common.{◌≡◌, ◌≢◌, ℕ, ◌+◌, ◌<◌, ◌≤◌, List, [], ◌∷◌, Bool, true, false, true≢false, cond, ltb, refl, sym, ap, ◌∙◌, subst, arith, Option, Some}
-use Rattle.psac_readers.proofs.Terms.{none_some, same_some, sum_by, ◌==◌, sum_by-cons, eq-eqb, eqb-true, ne_eqb, Stage, LinkView, ReadersView, named, linked, alive, in_set, is_live, times, IsSet, behind, next_live, Answers, live_in, Walked}
+use Rattle.psac_readers.proofs.Terms.{◌≡◌, ◌≢◌, ℕ, ◌+◌, ◌<◌, ◌≤◌, List, [], ◌∷◌, Bool, true, false, true≢false, cond, ltb, refl, sym, ap, ◌∙◌, subst, arith, Option, Some, none_some, same_some, sum_by, ◌==◌, sum_by-cons, eq-eqb, eqb-true, ne_eqb, Stage, LinkView, ReadersView, named, linked, alive, in_set, is_live, times, IsSet, behind, next_live, Answers, live_in, Walked}
 use Rattle.psac_readers.proofs.Links.{each_stage, if_less, if_low, in_low, live_low, none_if, sum_under}
 
 abbrev is_alive : List LinkView → ℕ → Bool

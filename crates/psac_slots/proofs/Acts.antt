@@ -1,12 +1,5 @@
 -- What a live pass of a table finds in the words of its claims.
-use Rattle.std.proofs.Common.{◌≡◌, ℕ, zero, suc, ◌+◌, ◌<◌, List, [], ◌∷◌, ◌++◌, sym, ap, ◌∙◌, subst, arith, Option, Some, true}
-use Rattle.std.specs.Prelude.{slice_index, IfSome, All}
-use mathlib.Core.Option.{some, some-ne-none, some-injective}
-use lib.ListN.{get_elem?}
-use Rattle.psac_slots.specs.declared.view.ClaimView.{ClaimView}
-use Rattle.psac_ops.specs.declared.plain.Handle.{Handle}
-use Rattle.psac_slots.specs.Handles.{Member, word_of, IsHandle, IsDistinct, later, slot_times}
-use Rattle.psac_slots.specs.Claiming.{place, Claimed, IsSole, Accounted, rewound}
+use Rattle.psac_slots.proofs.Terms.{◌≡◌, ℕ, zero, suc, ◌+◌, ◌<◌, List, [], ◌∷◌, ◌++◌, sym, ap, ◌∙◌, subst, arith, Option, Some, true, slice_index, IfSome, All, some, some-ne-none, some-injective, get_elem?, ClaimView, Handle, Member, word_of, IsHandle, IsDistinct, later, slot_times, place, Claimed, IsSole, Accounted, rewound}
 use Rattle.psac_slots.proofs.Sums.{sum_at}
 use Rattle.psac_slots.proofs.Removed.{at_most_once, one_word}
 use Rattle.psac_slots.proofs.Rewinds.{accounted, gives_at}

@@ -1,12 +1,5 @@
 -- What a slot that goes back leaves accounted for.
-use Rattle.std.proofs.Common.{◌≡◌, ◌≢◌, ◌<◌, [], ◌∷◌, length, cond, sym, ap, ⊎_elim, ◌∙◌, arith, length-append}
-use Rattle.std.specs.Prelude.{◌==◌}
-use Rattle.std.proofs.lemmas.List.Sums.{sum_by_push}
-use Rattle.std.proofs.lemmas.Bool.{cases_eq, eq-eqb, ne_eqb}
-use Rattle.psac_slots.specs.declared.view.ClaimView.{ClaimView}
-use Rattle.psac_ops.specs.declared.plain.Handle.{Handle}
-use Rattle.psac_slots.specs.Handles.{slot_times, removed}
-use Rattle.psac_slots.specs.Claiming.{Accounted, returned}
+use Rattle.psac_slots.proofs.Terms.{◌≡◌, ◌≢◌, ◌<◌, [], ◌∷◌, length, cond, sym, ap, ⊎_elim, ◌∙◌, arith, length-append, ◌==◌, sum_by_push, cases_eq, eq-eqb, ne_eqb, ClaimView, Handle, slot_times, removed, Accounted, returned}
 use Rattle.psac_slots.proofs.Sums.{bit}
 use Rattle.psac_slots.proofs.Removed.{removed_gone, removed_else, removed_length, at_most_once}
 

@@ -1,14 +1,5 @@
 -- Splits and joins keep the division of the rights.
-use Rattle.std.proofs.Common.{◌≡◌, ◌≢◌, ◌⊎◌, ℕ, ◌<◌, ◌≤◌, List, [], ◌∷◌, ◌++◌, map, length, set, Bool, true, false, true≢false, refl, sym, ap, ◌∙◌, subst, inl, inr, ⊎_elim, arith, length-append}
-use Rattle.std.specs.Prelude.{filter, not}
-use Rattle.std.proofs.lemmas.Bool.{and_parts, lt-ltb, ltb-true, cases_lt}
-use Rattle.std.proofs.lemmas.List.{set_comm}
-use mathlib.Core.Option.{some}
-use lib.ListN.{get_elem?}
-use Rattle.atomic_table.proofs.Lists.{at_set}
-use Rattle.psac_slots.specs.Branches.{is_prefix, stem}
-use Rattle.psac_slots.specs.Handles.{Member}
-use Rattle.psac_slots.specs.Divided.{Ways, Rights, Own, Beside, Divided, stays, goes, lends, told, left_rights, right_rights, above, comes_back, united, no_rights, Met}
+use Rattle.psac_slots.proofs.Terms.{◌≡◌, ◌≢◌, ◌⊎◌, ℕ, ◌<◌, ◌≤◌, List, [], ◌∷◌, ◌++◌, map, length, set, Bool, true, false, true≢false, refl, sym, ap, ◌∙◌, subst, inl, inr, ⊎_elim, arith, length-append, filter, not, and_parts, lt-ltb, ltb-true, cases_lt, set_comm, some, get_elem?, at_set, is_prefix, stem, Member, Ways, Rights, Own, Beside, Divided, stays, goes, lends, told, left_rights, right_rights, above, comes_back, united, no_rights, Met}
 use Rattle.psac_slots.proofs.Sums.{all_set}
 use Rattle.psac_slots.proofs.Pairs.{member_left, member_cases, member_filter, filter_member, member_map, one_after, pairs_set, pairs_end}
 use Rattle.psac_slots.proofs.Turns.{same_head, with_head, prefix_refl, prefix_long, prefix_cases, prefix_next, stem_push}

@@ -1,13 +1,7 @@
 -- Lists that are filtered, one slot after another.
-use Rattle.std.proofs.Common.{◌≡◌, ◌≢◌, ℕ, suc, ◌<◌, ◌≤◌, ◌+◌, List, [], ◌∷◌, map, Bool, true, false, cond, ltb, refl, sym, ap, ◌∙◌, inl, inr, ⊎_elim, arith}
-use Rattle.std.specs.Prelude.{filter, not, ◌==◌, ◌&&◌}
-use Rattle.std.proofs.lemmas.Bool.{eq-eqb, ne_eqb, lt-ltb, le-ltb, cases_lt, cases_eq}
-use Rattle.psac_ops.specs.declared.plain.Handle.{Handle}
-use Rattle.psac_slots.specs.Handles.{Member, slot_times, IsDistinct, removed}
-use Rattle.psac_slots.specs.Given.{only}
+use Rattle.psac_slots.proofs.Terms.{◌≡◌, ◌≢◌, ℕ, suc, ◌<◌, ◌≤◌, ◌+◌, List, [], ◌∷◌, map, Bool, true, false, cond, ltb, refl, sym, ap, ◌∙◌, inl, inr, ⊎_elim, arith, filter, not, ◌==◌, ◌&&◌, eq-eqb, ne_eqb, lt-ltb, le-ltb, cases_lt, cases_eq, Handle, Member, slot_times, IsDistinct, removed, only, sum_by-cons}
 use Rattle.psac_slots.proofs.Removed.{member_times}
 use Rattle.psac_slots.proofs.Sums.{bit}
-use Rattle.std.proofs.lemmas.List.Sums.{sum_by-cons}
 
 module _ {A : Type 0} where
   kept_one : (p q : A → Bool) (x : A) (l m n : List A) → filter p l ≡ n → (a b : Bool) → q x ≡ a → p x ≡ b → filter p (cond a (x ∷ l) l) ≡ cond (a && b) (x ∷ n) n

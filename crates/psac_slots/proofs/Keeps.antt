@@ -1,19 +1,5 @@
 -- A claim, a split and a join keep the rule of claims.
-use Rattle.std.proofs.Common.{◌≡◌, ◌≢◌, ◌⊎◌, ℕ, suc, ◌+◌, ◌-◌, ◌%◌, ◌^◌, ◌<◌, ◌≤◌, List, [], ◌∷◌, ◌++◌, length, set, drop, Bool, true, false, true≢false, cond, ltb, refl, sym, ap, ◌∙◌, subst, inl, inr, ⊎_elim, arith, Option, Some, None, length-append, length-set, mod-lt}
-use Rattle.std.specs.Prelude.{sum_by, ◌==◌, IfSome}
-use Rattle.std.proofs.lemmas.List.Sums.{sum_by-append, sum_by_push}
-use Rattle.std.proofs.lemmas.Bool.{lt-ltb, le-ltb, cases_lt, cases_Bool}
-use Rattle.std.proofs.lemmas.Nat.{pow_pos}
-use Rattle.std.proofs.lemmas.List.{set_comm}
-use Rattle.std.proofs.Math.Nat.{pow-suc}
-use mathlib.Core.Option.{some}
-use lib.ListN.{get_elem?}
-use Rattle.atomic_table.proofs.Lists.{set_else, set_here}
-use Rattle.psac_slots.specs.declared.view.ClaimView.{ClaimView}
-use Rattle.psac_ops.specs.declared.plain.Handle.{Handle}
-use Rattle.psac_slots.specs.Branches.{is_prefix, stem}
-use Rattle.psac_slots.specs.Handles.{slot_times}
-use Rattle.psac_slots.specs.Claiming.{weight, times, place, Fits, Apart, Claimed, entry, counted_on, drew, left_of, right_of, joined, spent}
+use Rattle.psac_slots.proofs.Terms.{◌≡◌, ◌≢◌, ◌⊎◌, ℕ, suc, ◌+◌, ◌-◌, ◌%◌, ◌^◌, ◌<◌, ◌≤◌, List, [], ◌∷◌, ◌++◌, length, set, drop, Bool, true, false, true≢false, cond, ltb, refl, sym, ap, ◌∙◌, subst, inl, inr, ⊎_elim, arith, Option, Some, None, length-append, length-set, mod-lt, sum_by, ◌==◌, IfSome, sum_by-append, sum_by_push, lt-ltb, le-ltb, cases_lt, cases_Bool, pow_pos, set_comm, pow-suc, some, get_elem?, set_else, set_here, ClaimView, Handle, is_prefix, stem, slot_times, weight, times, place, Fits, Apart, Claimed, entry, counted_on, drew, left_of, right_of, joined, spent}
 use Rattle.psac_slots.proofs.Sums.{sum_set, sum_two, sum_le, all_set, all_end, at_less, cut_one, once_below_more}
 use Rattle.psac_slots.proofs.Pairs.{pairs_set, pairs_end}
 use Rattle.psac_slots.proofs.Turns.{prefix_refl, prefix_short, prefix_long, prefix_cases, prefix_next, sides_apart, stem_push}

@@ -1,12 +1,5 @@
 -- What the rule of claims gives.
-use Rattle.std.proofs.Common.{◌≡◌, ℕ, ◌<◌, List, drop, ap, ◌∙◌, arith}
-use Rattle.std.specs.Prelude.{sum_by}
-use Rattle.std.proofs.lemmas.Bool.{lt-ltb, le-ltb}
-use Rattle.psac_slots.specs.declared.view.ClaimView.{ClaimView}
-use Rattle.psac_ops.specs.declared.plain.Handle.{Handle}
-use Rattle.psac_slots.specs.Handles.{slot_times}
-use Rattle.psac_slots.specs.Claiming.{Claimed}
-use Rattle.psac_slots.specs.Promised.{Promised}
+use Rattle.psac_slots.proofs.Terms.{◌≡◌, ℕ, ◌<◌, List, drop, ap, ◌∙◌, arith, sum_by, lt-ltb, le-ltb, ClaimView, Handle, slot_times, Claimed, Promised}
 use Rattle.psac_slots.proofs.Sums.{bit, sum_at, sum_two, sum_none}
 use Rattle.psac_slots.proofs.Removed.{at_most_once}
 use Rattle.psac_slots.proofs.Keeps.{bounded}

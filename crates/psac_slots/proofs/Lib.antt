@@ -1,3 +1,4 @@
+pub mod Terms
 pub mod Sums
 pub mod Turns
 pub mod Removed

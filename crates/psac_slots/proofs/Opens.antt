@@ -1,15 +1,5 @@
 -- The words at the start meet the rule of claims.
-use Rattle.std.proofs.Common.{◌≡◌, ℕ, zero, suc, ◌+◌, ◌%◌, ◌<◌, List, [], ◌∷◌, ◌++◌, map, Bool, true, false, true≢false, cond, refl, sym, ap, ◌∙◌, subst, arith, length-append}
-use Rattle.std.proofs.lemmas.Bool.{le-ltb}
-use Rattle.std.proofs.lemmas.List.{length-map}
-use Rattle.std.proofs.Math.Nat.{mod-eq_of_lt}
-use mathlib.Core.Option.{some, some-ne-none, some-injective}
-use lib.ListN.{get_elem?}
-use Rattle.atomic_table.proofs.Lists.{at_map, at_longer}
-use Rattle.psac_slots.specs.declared.view.ClaimView.{ClaimView}
-use Rattle.psac_ops.specs.declared.plain.Handle.{Handle}
-use Rattle.psac_slots.specs.Handles.{word_of, fresh}
-use Rattle.psac_slots.specs.Claiming.{Fits, Claimed, first_view}
+use Rattle.psac_slots.proofs.Terms.{◌≡◌, ℕ, zero, suc, ◌+◌, ◌%◌, ◌<◌, List, [], ◌∷◌, ◌++◌, map, Bool, true, false, true≢false, cond, refl, sym, ap, ◌∙◌, subst, arith, length-append, le-ltb, length-map, mod-eq_of_lt, some, some-ne-none, some-injective, get_elem?, at_map, at_longer, ClaimView, Handle, word_of, fresh, Fits, Claimed, first_view}
 use Rattle.psac_slots.proofs.Sums.{at_less}
 use Rattle.psac_slots.proofs.Removed.{length-fresh, sized-fresh, slots-fresh}
 

@@ -1,15 +1,5 @@
 -- Lists of handles from which a slot is taken, and words of handles.
-use Rattle.std.proofs.Common.{◌≡◌, ◌≢◌, ℕ, zero, suc, ◌+◌, ◌/◌, ◌%◌, ◌<◌, ◌≤◌, List, [], ◌∷◌, length, Bool, true, false, cond, ltb, refl, sym, ap, ◌∙◌, inl, inr, ⊎_elim, arith, length-append}
-use Rattle.std.specs.Prelude.{◌==◌, not, All}
-use Rattle.std.proofs.lemmas.List.Sums.{sum_by-cons, sum_by_push}
-use Rattle.std.proofs.lemmas.Bool.{eq-eqb, eqb-true, ne_eqb, le-ltb}
-use Rattle.std.proofs.lemmas.Nat.{mod-mul-add, div-mul-add}
-use Rattle.std.proofs.lemmas.List.Elements.{All-push}
-use mathlib.Core.Option.{some}
-use lib.ListN.{get_elem?}
-use Rattle.psac_ops.specs.declared.plain.Handle.{Handle}
-use Rattle.psac_slots.specs.Handles.{Member, word_of, IsHandle, fresh, slot_times, removed, once_below}
-use Rattle.psac_slots.specs.Claiming.{entry}
+use Rattle.psac_slots.proofs.Terms.{◌≡◌, ◌≢◌, ℕ, zero, suc, ◌+◌, ◌/◌, ◌%◌, ◌<◌, ◌≤◌, List, [], ◌∷◌, length, Bool, true, false, cond, ltb, refl, sym, ap, ◌∙◌, inl, inr, ⊎_elim, arith, length-append, ◌==◌, not, All, sum_by-cons, sum_by_push, eq-eqb, eqb-true, ne_eqb, le-ltb, mod-mul-add, div-mul-add, All-push, some, get_elem?, Handle, Member, word_of, IsHandle, fresh, slot_times, removed, once_below, entry}
 use Rattle.psac_slots.proofs.Sums.{bit, once_below_more}
 
 pub member_times : (x : Handle) (hs : List Handle) → Member x hs → 1 ≤ slot_times x.slot hs

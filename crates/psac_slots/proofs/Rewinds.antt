@@ -1,17 +1,5 @@
 -- A sole pass learns the counter, sets it back, and gives slots back.
-use Rattle.std.proofs.Common.{◌≡◌, ◌≢◌, ◌⊎◌, ℕ, zero, suc, ◌+◌, ◌-◌, ◌%◌, ◌^◌, ◌<◌, ◌≤◌, List, [], ◌∷◌, ◌++◌, length, set, take, drop, Bool, true, false, true≢false, cond, refl, sym, ap, ◌∙◌, subst, inl, inr, ⊎_elim, arith, Some, length-set, length-append, mod-lt}
-use Rattle.std.specs.Prelude.{sum_by, ◌==◌, All}
-use Rattle.std.proofs.lemmas.List.Sums.{sum_by_push}
-use Rattle.std.proofs.lemmas.List.Elements.{All-push}
-use Rattle.std.proofs.lemmas.Bool.{lt-ltb, le-ltb, cases_lt, cases_eq, eq-eqb, ne_eqb}
-use Rattle.std.proofs.Math.Nat.{add-mod_right}
-use mathlib.Core.Option.{some}
-use lib.ListN.{get_elem?}
-use Rattle.atomic_table.proofs.Lists.{set_here, set_else, one_turn}
-use Rattle.psac_slots.specs.declared.view.ClaimView.{ClaimView}
-use Rattle.psac_ops.specs.declared.plain.Handle.{Handle}
-use Rattle.psac_slots.specs.Handles.{Member, word_of, IsHandle, later, slot_times, removed, once_below}
-use Rattle.psac_slots.specs.Claiming.{weight, times, place, Fits, Claimed, Accounted, DrewBelow, spent, learned, counted, turned, rewound, returned, gave}
+use Rattle.psac_slots.proofs.Terms.{◌≡◌, ◌≢◌, ◌⊎◌, ℕ, zero, suc, ◌+◌, ◌-◌, ◌%◌, ◌^◌, ◌<◌, ◌≤◌, List, [], ◌∷◌, ◌++◌, length, set, take, drop, Bool, true, false, true≢false, cond, refl, sym, ap, ◌∙◌, subst, inl, inr, ⊎_elim, arith, Some, length-set, length-append, mod-lt, sum_by, ◌==◌, All, sum_by_push, All-push, lt-ltb, le-ltb, cases_lt, cases_eq, eq-eqb, ne_eqb, add-mod_right, some, get_elem?, set_here, set_else, one_turn, ClaimView, Handle, Member, word_of, IsHandle, later, slot_times, removed, once_below, weight, times, place, Fits, Claimed, Accounted, DrewBelow, spent, learned, counted, turned, rewound, returned, gave}
 use Rattle.psac_slots.proofs.Sums.{bit, sum_set, sum_at, sum_none, all_set, at_drop, at_new, at_less}
 use Rattle.psac_slots.proofs.Removed.{member_times, removed_gone, removed_else, removed_length, at_most_once}
 use Rattle.psac_slots.proofs.Keeps.{apart_same, none_beside, idle}

@@ -1,15 +1,5 @@
 -- What the tables that stand on these claims need alike: options, lists, and entries of a ring.
-use Rattle.std.proofs.Common.{◌≡◌, ℕ, zero, suc, ◌+◌, ◌/◌, ◌%◌, ◌<◌, ◌≤◌, ◌*◌, List, [], ◌∷◌, ◌++◌, map, length, set, take, drop, cond, ltb, refl, sym, ap, ◌∙◌, inl, ⊎_elim, arith, Option, Some, None}
-use Rattle.std.specs.Prelude.{sum_by}
-use Rattle.std.proofs.lemmas.Bool.{cases_lt, le-ltb, lt-ltb}
-use Rattle.std.proofs.lemmas.List.{length-map}
-use Rattle.std.proofs.lemmas.List.Sums.{sum_by-cons}
-use mathlib.Core.Option.{some, some-ne-none, some-injective}
-use lib.ListN.{get_elem?}
-use Rattle.psac_slots.specs.declared.view.ClaimView.{ClaimView}
-use Rattle.psac_ops.specs.declared.plain.Handle.{Handle}
-use Rattle.psac_slots.specs.Handles.{Member, word_of, fresh, slot_times, once_below}
-use Rattle.psac_slots.specs.Claiming.{Claimed, entry, place}
+use Rattle.psac_slots.proofs.Terms.{◌≡◌, ℕ, zero, suc, ◌+◌, ◌/◌, ◌%◌, ◌<◌, ◌≤◌, ◌*◌, List, [], ◌∷◌, ◌++◌, map, length, set, take, drop, cond, ltb, refl, sym, ap, ◌∙◌, inl, ⊎_elim, arith, Option, Some, None, sum_by, cases_lt, le-ltb, lt-ltb, length-map, sum_by-cons, some, some-ne-none, some-injective, get_elem?, ClaimView, Handle, Member, word_of, fresh, slot_times, once_below, Claimed, entry, place}
 use Rattle.psac_slots.proofs.Sums.{at_new, bit}
 use Rattle.psac_slots.proofs.Removed.{member_times, at_most_once, length-fresh}
 

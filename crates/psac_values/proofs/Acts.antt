@@ -1,6 +1,5 @@
 -- What each step of a table of values allows.
-use Rattle.std.proofs.Common.{◌≡◌, ℕ, suc, ◌+◌, ◌*◌, ◌%◌, ◌^◌, ◌<◌, List, [], ◌∷◌, ◌++◌, map, length, set, take, drop, Bool, true, false, refl, sym, ap, ◌∙◌, subst, arith, Some, None}
-use Rattle.psac_values.proofs.Terms.{slice_index, filter, set-get_or, some, none as vacant, get_elem?, State, Allows, keeps, step, set_again, set_else, Handle, Member, word_of, OwnedView, StateView, ValueView, claims_of, state_at, value_at, Valued, Rule, drew, Drew, Tells, Loaded, looked, Looked, wrote_word, Wrote, marked, Marked, later, removed, other_owned, other_state, free_word, Lacks, left_of, right_of, met, spent, learned, Learned, rewound, Rewound, gave, Gave, Settled, Splits, Joins}
+use Rattle.psac_values.proofs.Terms.{◌≡◌, ℕ, suc, ◌+◌, ◌*◌, ◌%◌, ◌^◌, ◌<◌, List, [], ◌∷◌, ◌++◌, map, length, set, take, drop, Bool, true, false, refl, sym, ap, ◌∙◌, subst, arith, Some, None, slice_index, filter, set-get_or, some, none as vacant, get_elem?, State, Allows, keeps, step, set_again, set_else, Handle, Member, word_of, OwnedView, StateView, ValueView, claims_of, state_at, value_at, Valued, Rule, drew, Drew, Tells, Loaded, looked, Looked, wrote_word, Wrote, marked, Marked, later, removed, other_owned, other_state, free_word, Lacks, left_of, right_of, met, spent, learned, Learned, rewound, Rewound, gave, Gave, Settled, Splits, Joins}
 use Rattle.psac_slots.specs.Claiming as claiming
 use Rattle.psac_slots.proofs.Acts as slots
 use Rattle.psac_slots.proofs.Rewinds as turns

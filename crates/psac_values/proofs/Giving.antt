@@ -1,6 +1,5 @@
 -- Made slots that are given back, one after another.
-use Rattle.std.proofs.Common.{◌≡◌, ◌≢◌, ℕ, suc, ◌+◌, ◌/◌, ◌%◌, ◌<◌, ◌≤◌, ◌++◌, map, Bool, true, false, ltb, refl, sym, ap, ◌∙◌, subst, ⊎_elim, arith, Some, append_assoc, append-nil}
-use Rattle.psac_values.proofs.Terms.{filter, not, ◌==◌, ◌&&◌, ◌||◌, map-append, ne_eqb, lt-ltb, le-ltb, cases_lt, Handle, Member, later, slot_times, removed, IsDistinct, only, by_slot, accounted_returned, member_map, map_member, member_times, filter_twice, filter_all, filter_none, filter_same, from_next, from_here, only_one, only_none, removed_none, held_from, OwnedView, StateView, ValueView, handle_of, Tells, other_owned, other_state, gave, gave_slot, gave_all, is_fixed, IsOut, Carries, found}
+use Rattle.psac_values.proofs.Terms.{◌≡◌, ◌≢◌, ℕ, suc, ◌+◌, ◌/◌, ◌%◌, ◌<◌, ◌≤◌, ◌++◌, map, Bool, true, false, ltb, refl, sym, ap, ◌∙◌, subst, ⊎_elim, arith, Some, append_assoc, append-nil, filter, not, ◌==◌, ◌&&◌, ◌||◌, map-append, ne_eqb, lt-ltb, le-ltb, cases_lt, Handle, Member, later, slot_times, removed, IsDistinct, only, by_slot, accounted_returned, member_map, map_member, member_times, filter_twice, filter_all, filter_none, filter_same, from_next, from_here, only_one, only_none, removed_none, held_from, OwnedView, StateView, ValueView, handle_of, Tells, other_owned, other_state, gave, gave_slot, gave_all, is_fixed, IsOut, Carries, found}
 use Rattle.psac_slots.specs.Claiming as claiming
 use Rattle.psac_values.proofs.Carrying.{told_out}
 

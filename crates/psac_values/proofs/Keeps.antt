@@ -1,6 +1,5 @@
 -- Each step of one pass keeps the rule of values.
-use Rattle.std.proofs.Common.{◌≡◌, ◌≢◌, ℕ, zero, suc, ◌+◌, ◌-◌, ◌%◌, ◌^◌, ◌<◌, ◌≤◌, List, [], ◌∷◌, ◌++◌, map, length, set, drop, true, cond, refl, sym, ap, ◌∙◌, subst, inl, inr, ⊎_elim, arith, Option, Some, None, length-set}
-use Rattle.psac_values.proofs.Terms.{at_mapped, same_some, undrawn_slot, first_same, sum_by, ◌==◌, IfSome, map-set, map-append, sum_by-append, eq-eqb, ne_eqb, cases_eq, some, some-ne-none, some-injective, get_elem?, at_map, at_set, set_here, set_else, set_again, Handle, Member, slot_times, ClaimView, Rights, Divided, sum_set, sum_at, sum_two, all_set, member_cases, member_map, map_member, entry_at, later_member, member_times, at_most_once, changes, Unknown, OwnedView, KnownView, StateView, ValueView, state_at, value_at, free_word, claims_of, handle_of, rights_of, ways, Whole, Stated, Meeting, Fits, held_times, Made, Valued, new_owned, new_state, drew, Lacks, put, wrote_word, mark, marked}
+use Rattle.psac_values.proofs.Terms.{◌≡◌, ◌≢◌, ℕ, zero, suc, ◌+◌, ◌-◌, ◌%◌, ◌^◌, ◌<◌, ◌≤◌, List, [], ◌∷◌, ◌++◌, map, length, set, drop, true, refl, sym, ap, ◌∙◌, subst, inl, inr, ⊎_elim, arith, Option, Some, None, length-set, cond, at_mapped, same_some, undrawn_slot, first_same, sum_by, ◌==◌, IfSome, map-set, map-append, sum_by-append, eq-eqb, ne_eqb, cases_eq, some, some-ne-none, some-injective, get_elem?, at_map, at_set, set_here, set_else, set_again, Handle, Member, slot_times, ClaimView, Rights, Divided, sum_set, sum_at, sum_two, all_set, member_cases, member_map, map_member, entry_at, later_member, member_times, at_most_once, changes, Unknown, OwnedView, KnownView, StateView, ValueView, state_at, value_at, free_word, claims_of, handle_of, rights_of, ways, Whole, Stated, Meeting, Fits, held_times, Made, Valued, new_owned, new_state, drew, Lacks, put, wrote_word, mark, marked}
 use Rattle.psac_slots.specs.Claiming as claiming
 use Rattle.psac_slots.proofs.Keeps as laws
 use Rattle.psac_values.proofs.Words.{whole_else, stated_else, fits_else, fits_low, first_only}

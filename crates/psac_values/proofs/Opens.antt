@@ -1,6 +1,5 @@
 -- The words at the start meet the rule of values.
-use Rattle.std.proofs.Common.{◌≡◌, ℕ, zero, suc, ◌+◌, ◌*◌, ◌<◌, ◌≤◌, [], ◌∷◌, ◌++◌, map, length, refl, sym, ap, ◌∙◌, subst, ⊎_elim, arith, Option, Some, length-append}
-use Rattle.psac_values.proofs.Terms.{at_past, fresh_at, ring_length, cases_lt, at_longer, some, some-ne-none, some-injective, get_elem?, Member, word_of, fresh, Own, Rights, length-fresh, member_cases, OwnedView, KnownView, ValueView, state_at, value_at, rights_of, ways, Whole, Fits, Made, Valued, first_mine, first_view, repeated, first_words, Carries}
+use Rattle.psac_values.proofs.Terms.{◌≡◌, ℕ, zero, suc, ◌+◌, ◌*◌, ◌<◌, ◌≤◌, [], ◌∷◌, ◌++◌, map, length, refl, sym, ap, ◌∙◌, subst, ⊎_elim, arith, Option, Some, length-append, at_past, fresh_at, ring_length, cases_lt, at_longer, some, some-ne-none, some-injective, get_elem?, Member, word_of, fresh, Own, Rights, length-fresh, member_cases, OwnedView, KnownView, ValueView, state_at, value_at, rights_of, ways, Whole, Fits, Made, Valued, first_mine, first_view, repeated, first_words, Carries}
 use Rattle.psac_slots.proofs.Opens as slots
 
 pub length-repeated : (x n : ℕ) → length (repeated x n) ≡ n

@@ -1,6 +1,5 @@
 -- Splits and joins keep the rule of values.
-use Rattle.std.proofs.Common.{◌≡◌, ◌≢◌, ◌⊎◌, ℕ, ◌+◌, ◌-◌, ◌<◌, ◌≤◌, List, [], ◌∷◌, ◌++◌, map, length, set, Bool, true, false, true≢false, refl, sym, ap, ◌∙◌, subst, inl, inr, ⊎_elim, arith}
-use Rattle.psac_values.proofs.Terms.{at_mapped, sum_by, filter, ◌==◌, cond, map-set, map-append, sum_by-append, sum_by_push, some, get_elem?, at_map, set_else, Handle, is_prefix, stem, Member, slot_times, ClaimView, Divided, Rights, stays, goes, lends, above, comes_back, no_rights, sum_set, all_set, member_cases, member_filter, member_map, one_after, divides, unites, meets, OwnedView, KnownView, ValueView, claims_of, handle_of, rights_of, ways, Whole, Fits, held_times, Made, Valued, now_known, left_of, right_of, met, joined, spent}
+use Rattle.psac_values.proofs.Terms.{◌≡◌, ◌≢◌, ◌⊎◌, ℕ, ◌+◌, ◌-◌, ◌<◌, ◌≤◌, List, [], ◌∷◌, ◌++◌, map, length, set, Bool, true, false, true≢false, refl, sym, ap, ◌∙◌, subst, inl, inr, ⊎_elim, arith, at_mapped, sum_by, filter, ◌==◌, cond, map-set, map-append, sum_by-append, sum_by_push, some, get_elem?, at_map, set_else, Handle, is_prefix, stem, Member, slot_times, ClaimView, Divided, Rights, stays, goes, lends, above, comes_back, no_rights, sum_set, all_set, member_cases, member_filter, member_map, one_after, divides, unites, meets, OwnedView, KnownView, ValueView, claims_of, handle_of, rights_of, ways, Whole, Fits, held_times, Made, Valued, now_known, left_of, right_of, met, joined, spent}
 use Rattle.psac_slots.specs.Claiming as claiming
 use Rattle.psac_slots.proofs.Keeps as laws
 use Rattle.psac_values.proofs.Keeps.{made_more, held_after}

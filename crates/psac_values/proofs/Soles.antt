@@ -1,6 +1,5 @@
 -- The steps of a sole pass keep the rule of values.
-use Rattle.std.proofs.Common.{◌≡◌, ◌≢◌, ℕ, ◌+◌, ◌-◌, ◌*◌, ◌<◌, ◌≤◌, List, [], ◌∷◌, ◌++◌, map, length, set, take, drop, true, false, true≢false, refl, sym, ap, ◌∙◌, subst, inl, ⊎_elim, arith, Some, length-set, mod-lt}
-use Rattle.psac_values.proofs.Terms.{none_in, dropped_at, ◌==◌, eq-eqb, lt-ltb, some, get_elem?, at_map, set_else, Handle, Member, word_of, later, slot_times, removed, once_below, ClaimView, bit, at_drop, at_new, member_filter, filtered, found, removed_else, changes, off, KnownView, StateView, ValueView, state_at, free_word, claims_of, handle_of, rights_of, ways, held_times, Made, Valued, learned, rewound, other_owned, other_state, gave}
+use Rattle.psac_values.proofs.Terms.{◌≡◌, ◌≢◌, ℕ, ◌+◌, ◌-◌, ◌*◌, ◌<◌, ◌≤◌, List, [], ◌∷◌, ◌++◌, map, length, set, take, drop, true, false, true≢false, refl, sym, ap, ◌∙◌, subst, inl, ⊎_elim, arith, Some, length-set, mod-lt, none_in, dropped_at, ◌==◌, eq-eqb, lt-ltb, some, get_elem?, at_map, set_else, Handle, Member, word_of, later, slot_times, removed, once_below, ClaimView, bit, at_drop, at_new, member_filter, filtered, found, removed_else, changes, off, KnownView, StateView, ValueView, state_at, free_word, claims_of, handle_of, rights_of, ways, held_times, Made, Valued, learned, rewound, other_owned, other_state, gave}
 use Rattle.psac_slots.specs.Claiming as claiming
 use Rattle.psac_slots.proofs.Rewinds as turns
 use Rattle.psac_values.proofs.Words.{whole_else, stated_else, fits_low}

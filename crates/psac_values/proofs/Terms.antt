@@ -1,12 +1,5 @@
 -- What the proofs of this crate speak of: lists, tests and sums, handles and claims, and the words of its specs.
-pub use Rattle.atomic_table.proofs.Lists.{at_longer, at_map, at_set, set_again, set_else, set_here}
-pub use Rattle.atomic_table.specs.Table.{Allows, Joins, Splits, State, Step, keeps, step}
-pub use Rattle.std.proofs.lemmas.Bool.{cases_Bool, cases_eq, cases_lt, eq-eqb, eqb-true, le-ltb, lt-ltb, ne_eqb}
-pub use Rattle.std.proofs.lemmas.List.{length-map, map-append, map-set, set-get_or}
-pub use Rattle.std.proofs.lemmas.List.Sums.{sum_by-append, sum_by_push}
-pub use Rattle.std.specs.Prelude.{IfSome, cond, filter, not, slice_index, sum_by, ◌&&◌, ◌==◌, ◌||◌}
-pub use lib.ListN.{get_elem?}
-pub use mathlib.Core.Option.{none, some, some-injective, some-ne-none}
+pub use Rattle.psac_slots.proofs.Terms.{◌≡◌, ◌≢◌, ℕ, suc, ◌+◌, ◌/◌, ◌%◌, ◌<◌, ◌≤◌, ◌++◌, map, Bool, true, false, ltb, refl, sym, ap, ◌∙◌, subst, ⊎_elim, arith, Some, append_assoc, append-nil, ◌-◌, ◌*◌, List, [], ◌∷◌, length, set, take, drop, true≢false, inl, length-set, mod-lt, ◌⊎◌, inr, zero, Option, length-append, ◌^◌, None, get_or, at_longer, at_map, at_set, set_again, set_else, set_here, Allows, Joins, Splits, State, Step, keeps, step, cases_Bool, cases_eq, cases_lt, eq-eqb, eqb-true, le-ltb, lt-ltb, ne_eqb, length-map, map-append, map-set, set-get_or, sum_by-append, sum_by_push, IfSome, cond, filter, not, slice_index, sum_by, ◌&&◌, ◌==◌, ◌||◌, get_elem?, none, some, some-injective, some-ne-none, is_prefix, stem, Accounted, IsSole, counted, entry, place, turned, Divided, Own, Rights, above, comes_back, goes, lends, no_rights, stays, by_slot, only, IsDistinct, IsHandle, Member, fresh, later, once_below, removed, slot_times, word_of}
 pub use Rattle.psac_ops.specs.declared.plain.Handle.{Handle}
 pub use Rattle.psac_slots.proofs.Carrying.{accounted_returned}
 pub use Rattle.psac_slots.proofs.Dividing.{Unknown, changes, divides, meets, off, unites}
@@ -17,11 +10,6 @@ pub use Rattle.psac_slots.proofs.Removed.{at_most_once, claimed_entry, found, le
 pub use Rattle.psac_slots.proofs.Rewinds.{gone_is, rest_is}
 pub use Rattle.psac_slots.proofs.Sums.{all_set, at_drop, at_less, at_new, bit, sum_at, sum_set, sum_two}
 pub use Rattle.psac_slots.proofs.Tables.{at_mapped, at_past, dropped_at, first_same, fresh_at, handle_at, none_in, one_more, past_entry, place_is, ring_length, same_some, twice, undrawn as undrawn_slot, within}
-pub use Rattle.psac_slots.specs.Branches.{is_prefix, stem}
-pub use Rattle.psac_slots.specs.Claiming.{Accounted, IsSole, counted, entry, place, turned}
-pub use Rattle.psac_slots.specs.Divided.{Divided, Own, Rights, above, comes_back, goes, lends, no_rights, stays}
-pub use Rattle.psac_slots.specs.Given.{by_slot, only}
-pub use Rattle.psac_slots.specs.Handles.{IsDistinct, IsHandle, Member, fresh, later, once_below, removed, slot_times, word_of}
 pub use Rattle.psac_slots.specs.declared.view.ClaimView.{ClaimView}
 pub use Rattle.psac_values.specs.Carried.{Carries}
 pub use Rattle.psac_values.specs.Knowing.{Has, IsLive, IsOut, Knows, United, all_words, claimed_as, rewritten, took, wrote}

@@ -1,6 +1,5 @@
 -- Stores beside the words of a view, and entries of a free list.
-use Rattle.std.proofs.Common.{◌≢◌, ℕ, ◌<◌, ◌≤◌, List, [], ◌∷◌, set, take, ◌∙◌, inl, ⊎_elim, arith, Option, Some}
-use Rattle.psac_values.proofs.Terms.{set_else, Handle, Member, at_less, OwnedView, KnownView, StateView, ValueView, state_at, value_at, Whole, Stated, Fits}
+use Rattle.psac_values.proofs.Terms.{◌≢◌, ℕ, ◌<◌, ◌≤◌, List, [], ◌∷◌, set, take, ◌∙◌, inl, ⊎_elim, arith, Option, Some, set_else, Handle, Member, at_less, OwnedView, KnownView, StateView, ValueView, state_at, value_at, Whole, Stated, Fits}
 
 module _ (fixed count : ℕ) (words : List ℕ) (i x : ℕ) where
   pub whole_else : (h : Handle) (ws : List (Option ℕ)) → ((j : ℕ) → j < 3 → value_at count h.slot j ≢ i) → Whole fixed count words h ws → Whole fixed count (set words i x) h ws

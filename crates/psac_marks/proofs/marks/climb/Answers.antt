@@ -1,5 +1,4 @@
-use Rattle.std.proofs.Common.{◌≡◌, subst, ◌∙◌, refl, arith}
-use Rattle.psac_marks.proofs.Terms.{Member, MarksView, Place, places, RaisedOne}
+use Rattle.psac_marks.proofs.Terms.{◌≡◌, subst, ◌∙◌, refl, arith, Member, MarksView, Place, places, RaisedOne}
 use Rattle.psac_marks.proofs.Climbing.{begins, stands, goes_up, ends}
 use Rattle.psac_marks.proofs.marks.climb.Goals as goal
 

@@ -1,5 +1,4 @@
-use Rattle.std.proofs.Common.{◌≡◌}
-use Rattle.psac_marks.specs.Marked.{places}
+use Rattle.psac_marks.proofs.Terms.{◌≡◌, places}
 use Rattle.psac_marks.proofs.Climbing.{Midway, unmarked}
 use Rattle.psac_marks.proofs.marks.climb.Given as goal
 

@@ -1,5 +1,4 @@
-use Rattle.std.proofs.Common.{ℕ, ◌+◌, ◌*◌, ◌-◌, ◌≡◌, ◌<◌, inl, inr, sym, ap, subst, ◌∙◌, refl, arith}
-use Rattle.psac_marks.proofs.Terms.{Seat, Step, MarksView, mark_at, parent_at, Place, places, Has, Tells, Raised, raised, MayRaise, IsBusy, IsKept}
+use Rattle.psac_marks.proofs.Terms.{ℕ, ◌+◌, ◌*◌, ◌-◌, ◌≡◌, ◌<◌, inl, inr, sym, ap, subst, ◌∙◌, refl, arith, Seat, Step, MarksView, mark_at, parent_at, Place, places, Has, Tells, Raised, raised, MayRaise, IsBusy, IsKept}
 use Rattle.psac_marks.proofs.Acts.{raises, loads}
 use Rattle.psac_marks.proofs.Climbing.{found_more, no_parent, the_parent}
 use Rattle.psac_marks.proofs.marks.raise_one.Goals as goal

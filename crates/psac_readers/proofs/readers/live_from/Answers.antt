@@ -1,5 +1,4 @@
-use Rattle.std.proofs.Common.{◌≡◌, length, ℕ, List, ◌≢◌, ◌<◌, ◌≤◌, ◌-◌, sym, ap, subst, ◌∙◌, arith}
-use Rattle.psac_readers.proofs.Terms.{from_word, next_live, sum_by, ReadersView, Each, Fine, Walks, has_word, named, deads, settled, chain_of}
+use Rattle.psac_readers.proofs.Terms.{◌≡◌, length, ℕ, List, ◌≢◌, ◌<◌, ◌≤◌, ◌-◌, sym, ap, subst, ◌∙◌, arith, from_word, next_live, sum_by, ReadersView, Each, Fine, Walks, has_word, named, deads, settled, chain_of}
 use Rattle.psac_readers.proofs.Acts.{loads}
 use Rattle.psac_readers.proofs.Walking.{Turn, turn, turn_live, turn_dead, turn_settled}
 use Rattle.psac_readers.proofs.readers.live_from.Given as given

@@ -1,5 +1,4 @@
-use Rattle.std.proofs.Common.{ℕ, List, map}
-use Rattle.psac_values.proofs.Terms.{at_map, Handle, promised, unheld, ValueView, Valued, claims_of, rights_of, Promised}
+use Rattle.psac_values.proofs.Terms.{ℕ, List, map, at_map, Handle, promised, unheld, ValueView, Valued, claims_of, rights_of, Promised}
 use Rattle.psac_values.proofs.Keeps.{lacks}
 use Rattle.psac_values.proofs.law.known_words_stand.Goals as goal
 

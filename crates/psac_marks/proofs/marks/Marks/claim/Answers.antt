@@ -1,5 +1,4 @@
-use Rattle.std.proofs.Common.{ℕ, suc, ◌+◌, ◌*◌, ◌%◌, ◌∷◌, [], List, map, ◌<◌, ◌≡◌, length, sym, ap, subst, ◌∙◌, arith, mod-lt, refl, inl, Option, Some}
-use Rattle.psac_marks.proofs.Terms.{one_more, handle_at, past_entry, within, Step, Member, entry, times, member_left, member_right, map_member, MarksView, parent_at, parent_word, state_at, out_word, places, Has, HasOwn, Seat, Drew, Loaded, Tells, Lacks, new_own, new_state, drew, hung, stated, Carries, slot_of, took}
+use Rattle.psac_marks.proofs.Terms.{ℕ, suc, ◌+◌, ◌*◌, ◌%◌, ◌∷◌, [], List, map, ◌<◌, ◌≡◌, length, sym, ap, subst, ◌∙◌, arith, mod-lt, refl, inl, Option, Some, one_more, handle_at, past_entry, within, Step, Member, entry, times, member_left, member_right, map_member, MarksView, parent_at, parent_word, state_at, out_word, places, Has, HasOwn, Seat, Drew, Loaded, Tells, Lacks, new_own, new_state, drew, hung, stated, Carries, slot_of, took}
 use Rattle.psac_marks.proofs.Acts.{draws, loads, hangs, states}
 use Rattle.psac_marks.proofs.Carrying.{carried, carries_past, carries_took, took_is, found_here, parent_has}
 use Rattle.psac_marks.proofs.Parts.{drew_has}

@@ -1,5 +1,4 @@
-use Rattle.std.proofs.Common.{ℕ, sym, ap, subst, ◌∙◌, arith}
-use Rattle.psac_marks.proofs.Terms.{MarksView, Carries, Bare}
+use Rattle.psac_marks.proofs.Terms.{ℕ, sym, ap, subst, ◌∙◌, arith, MarksView, Carries, Bare}
 use Rattle.psac_marks.proofs.Keeps.{own_alone}
 use Rattle.psac_marks.proofs.Families.{bare_below}
 use Rattle.psac_marks.proofs.Acts.{clears}

@@ -1,5 +1,4 @@
-use Rattle.std.proofs.Common.{ℕ, sym, ap, subst, ◌∙◌, arith}
-use Rattle.psac_marks.proofs.Terms.{MarksView, Carries}
+use Rattle.psac_marks.proofs.Terms.{ℕ, sym, ap, subst, ◌∙◌, arith, MarksView, Carries}
 use Rattle.psac_marks.proofs.Acts.{detaches}
 use Rattle.psac_marks.proofs.Carrying.{own_low, carries_detached}
 use Rattle.psac_marks.proofs.marks.Marks.detach.Goals as goal

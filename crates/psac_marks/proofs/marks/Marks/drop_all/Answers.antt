@@ -1,5 +1,4 @@
-use Rattle.std.proofs.Common.{◌≡◌, ◌≢◌, ◌<◌, [], ◌∷◌, ◌++◌, sym, ap, subst, ◌∙◌, ⊎_elim, arith, append_assoc}
-use Rattle.psac_marks.proofs.Terms.{◌==◌, cases_eq, Member, slot_times, times, bit, found, MarksView, detached}
+use Rattle.psac_marks.proofs.Terms.{◌≡◌, ◌≢◌, ◌<◌, [], ◌∷◌, ◌++◌, sym, ap, subst, ◌∙◌, ⊎_elim, arith, append_assoc, ◌==◌, cases_eq, Member, slot_times, times, bit, found, MarksView, detached}
 use Rattle.psac_marks.proofs.Parts.{times_push, bit_same, bit_other}
 use Rattle.psac_marks.proofs.Counted.{times_both}
 use Rattle.psac_marks.proofs.GivingAll.{held_below}

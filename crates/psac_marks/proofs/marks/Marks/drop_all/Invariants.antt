@@ -1,5 +1,4 @@
-use Rattle.std.proofs.Common.{◌≡◌, ℕ, ◌<◌, List, ◌++◌}
-use Rattle.psac_marks.proofs.Terms.{slot_times, times, dropping}
+use Rattle.psac_marks.proofs.Terms.{◌≡◌, ℕ, ◌<◌, List, ◌++◌, slot_times, times, dropping}
 use Rattle.psac_marks.proofs.marks.Marks.drop_all.Given as goal
 
 abbrev pub invariant-loop-slot : goal.invariant-loop-slot

@@ -1,6 +1,4 @@
-use Rattle.std.proofs.Common.{◌≡◌, ℕ, Option, Some, None, true, true≢false, sym, ap, subst, ◌∙◌, inr, arith}
-use Rattle.std.specs.Option.{is_some}
-use Rattle.psac_marks.proofs.Terms.{IfSome, Handle, Member, member_times, MarksView, HasOwn, detached, Carries, Owns}
+use Rattle.psac_marks.proofs.Terms.{◌≡◌, ℕ, Option, Some, None, true, true≢false, sym, ap, subst, ◌∙◌, inr, arith, is_some, IfSome, Handle, Member, member_times, MarksView, HasOwn, detached, Carries, Owns}
 use Rattle.psac_marks.proofs.Acts.{detaches}
 use Rattle.psac_marks.proofs.Carrying.{carries_detached}
 use Rattle.psac_marks.proofs.marks.Marks.drop_slot.Goals as goal

@@ -1,5 +1,4 @@
-use Rattle.std.proofs.Common.{ℕ, ◌≡◌, ◌<◌, length, sym, ap, subst, ◌∙◌, arith}
-use Rattle.psac_marks.proofs.Terms.{not, Member, times, SharedView, MarksView, HasOwn, left_of, right_of, goes_over, Carries, Parted}
+use Rattle.psac_marks.proofs.Terms.{ℕ, ◌≡◌, ◌<◌, length, sym, ap, subst, ◌∙◌, arith, not, Member, times, SharedView, MarksView, HasOwn, left_of, right_of, goes_over, Carries, Parted}
 use Rattle.psac_marks.proofs.Acts.{loads}
 use Rattle.psac_marks.proofs.Splitting.{splits_at, left_dropped, right_dropped, side_kept}
 use Rattle.psac_marks.proofs.Handed.{carries_left, carries_right}

@@ -1,5 +1,4 @@
-use Rattle.std.proofs.Common.{◌≡◌, ◌/◌, sym, ap, subst, ◌∙◌, arith}
-use Rattle.psac_marks.proofs.Terms.{Member, slot_times, MarksView, Owns}
+use Rattle.psac_marks.proofs.Terms.{◌≡◌, ◌/◌, sym, ap, subst, ◌∙◌, arith, Member, slot_times, MarksView, Owns}
 use Rattle.psac_marks.proofs.Acts.{loads}
 use Rattle.psac_marks.proofs.Going.{was_out, was_free}
 use Rattle.psac_marks.proofs.marks.Marks.generation_out.Goals as goal

@@ -1,5 +1,4 @@
-use Rattle.std.proofs.Common.{◌≡◌, suc, ◌+◌, ◌<◌, map, sym, ap, subst, ◌∙◌, ⊎_elim, arith}
-use Rattle.psac_marks.proofs.Terms.{Handle, Member, slot_times, times, Accounted, member_filter, MarksView, handle_of, Holds, dropping, rewound, released, Childless}
+use Rattle.psac_marks.proofs.Terms.{◌≡◌, suc, ◌+◌, ◌<◌, map, sym, ap, subst, ◌∙◌, ⊎_elim, arith, Handle, Member, slot_times, times, Accounted, member_filter, MarksView, handle_of, Holds, dropping, rewound, released, Childless}
 use Rattle.psac_marks.proofs.GivingAll.{held_from, gave_below, begins, gives_held, gives_none, all_childless, ends, held_below, ready}
 use Rattle.psac_marks.proofs.marks.Marks.give_all.Goals as goal
 

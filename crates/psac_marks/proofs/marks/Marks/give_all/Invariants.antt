@@ -1,5 +1,4 @@
-use Rattle.std.proofs.Common.{◌≡◌, ℕ, List}
-use Rattle.psac_marks.proofs.Terms.{Accounted, dropping, rewound}
+use Rattle.psac_marks.proofs.Terms.{◌≡◌, ℕ, List, Accounted, dropping, rewound}
 use Rattle.psac_marks.proofs.GivingAll.{gave_below, Ready}
 use Rattle.psac_marks.proofs.marks.Marks.give_all.Given as goal
 

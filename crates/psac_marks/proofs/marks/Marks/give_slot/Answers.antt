@@ -1,5 +1,4 @@
-use Rattle.std.proofs.Common.{refl, sym, ap, subst, ◌∙◌, inr}
-use Rattle.psac_marks.proofs.Terms.{Handle, Pass, MarksView, released, Childless}
+use Rattle.psac_marks.proofs.Terms.{refl, sym, ap, subst, ◌∙◌, inr, Handle, Pass, MarksView, released, Childless}
 use Rattle.psac_marks.proofs.marks.Marks.give_slot.Goals as goal
 
 pub put_back-requires-clause-children : goal.put_back-requires-clause-children

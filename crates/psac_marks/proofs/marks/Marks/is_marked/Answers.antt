@@ -1,5 +1,4 @@
-use Rattle.std.proofs.Common.{ℕ, zero, suc, ◌<◌, ◌≡◌, true≢false, sym, ap, subst, ◌∙◌, arith}
-use Rattle.psac_marks.proofs.Terms.{◌==◌, not, IsTrue, ne_eqb, Handle, times, MarksView, IsClosed, Carries, Owns}
+use Rattle.psac_marks.proofs.Terms.{ℕ, zero, suc, ◌<◌, ◌≡◌, true≢false, sym, ap, subst, ◌∙◌, arith, ◌==◌, not, IsTrue, ne_eqb, Handle, times, MarksView, IsClosed, Carries, Owns}
 use Rattle.psac_marks.proofs.Acts.{asks}
 use Rattle.psac_marks.proofs.Carrying.{own_low, carries_asked}
 use Rattle.psac_marks.proofs.marks.Marks.is_marked.Goals as goal

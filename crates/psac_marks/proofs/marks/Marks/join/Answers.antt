@@ -1,5 +1,4 @@
-use Rattle.std.proofs.Common.{◌≡◌, ◌<◌, ℕ, sym, ap, subst, ◌∙◌, arith, Option, None}
-use Rattle.psac_marks.proofs.Terms.{IfSome, set_else, Member, times, SharedView, MetView, MarksView, places, HasOwn, Meeting, joined, met, IsClosed, United}
+use Rattle.psac_marks.proofs.Terms.{◌≡◌, ◌<◌, ℕ, sym, ap, subst, ◌∙◌, arith, Option, None, IfSome, set_else, Member, times, SharedView, MetView, MarksView, places, HasOwn, Meeting, joined, met, IsClosed, United}
 use Rattle.psac_marks.proofs.Acts.{settles}
 use Rattle.psac_marks.proofs.Uniting.{joins_at, unites_views}
 use Rattle.psac_marks.proofs.Handed.{carries_joined}

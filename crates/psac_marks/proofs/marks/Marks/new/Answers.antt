@@ -1,5 +1,4 @@
-use Rattle.std.proofs.Common.{◌≡◌, ℕ, ◌∷◌, [], List, length, sym, subst, arith, ◌∙◌, ap}
-use Rattle.psac_marks.proofs.Terms.{Marked, first_view, first_words, Carries}
+use Rattle.psac_marks.proofs.Terms.{◌≡◌, ℕ, ◌∷◌, [], List, length, sym, subst, arith, ◌∙◌, ap, Marked, first_view, first_words, Carries}
 use Rattle.psac_marks.proofs.Opens.{opens, length_first, first_carries}
 use Rattle.psac_marks.proofs.marks.Marks.new.Goals as goal
 

@@ -1,5 +1,4 @@
-use Rattle.std.proofs.Common.{◌≡◌, ◌∷◌, map}
-use Rattle.psac_marks.proofs.Terms.{word_of, fresh, first_words}
+use Rattle.psac_marks.proofs.Terms.{◌≡◌, ◌∷◌, map, word_of, fresh, first_words}
 use Rattle.psac_marks.proofs.marks.Marks.new.Given as goal
 
 abbrev pub invariant-loop-slot : goal.invariant-loop-slot

@@ -1,5 +1,4 @@
-use Rattle.std.proofs.Common.{◌≡◌, suc, ◌+◌, ◌*◌, ◌%◌, length, refl, sym, ap, subst, ◌∙◌, arith, mod-lt, None}
-use Rattle.psac_marks.proofs.Terms.{Seat, none_some, twice, one_more, Handle, Member, word_of, later, place, Accounted, MarksView, free_word, HasOwn, hung, stated, gave, released, Owns, Childless}
+use Rattle.psac_marks.proofs.Terms.{◌≡◌, suc, ◌+◌, ◌*◌, ◌%◌, length, refl, sym, ap, subst, ◌∙◌, arith, mod-lt, None, Seat, none_some, twice, one_more, Handle, Member, word_of, later, place, Accounted, MarksView, free_word, HasOwn, hung, stated, gave, released, Owns, Childless}
 use Rattle.psac_marks.proofs.Keeps.{own_alone}
 use Rattle.psac_marks.proofs.Families.{bare_below}
 use Rattle.psac_marks.proofs.Acts.{clears, hangs, states}

@@ -1,5 +1,4 @@
-use Rattle.std.proofs.Common.{ℕ, sym, ap, subst, ◌∙◌}
-use Rattle.psac_marks.proofs.Terms.{MarksView, Carries, IsBusy}
+use Rattle.psac_marks.proofs.Terms.{ℕ, sym, ap, subst, ◌∙◌, MarksView, Carries, IsBusy}
 use Rattle.psac_marks.proofs.Carrying.{carries_climbed}
 use Rattle.psac_marks.proofs.Climbing.{rises_busy}
 use Rattle.psac_marks.proofs.marks.Marks.raise.Goals as goal

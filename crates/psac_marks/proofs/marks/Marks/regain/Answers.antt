@@ -1,5 +1,4 @@
-use Rattle.std.proofs.Common.{ℕ, sym, ap, subst, ◌∙◌, arith}
-use Rattle.psac_marks.proofs.Terms.{MarksView, Carries}
+use Rattle.psac_marks.proofs.Terms.{ℕ, sym, ap, subst, ◌∙◌, arith, MarksView, Carries}
 use Rattle.psac_marks.proofs.Regaining.{regains}
 use Rattle.psac_marks.proofs.Handed.{carries_regained}
 use Rattle.psac_marks.proofs.marks.Marks.regain.Goals as goal

@@ -1,5 +1,4 @@
-use Rattle.std.proofs.Common.{sym, subst}
-use Rattle.psac_marks.proofs.Terms.{Handle, Member, MarksView, Owns, Childless}
+use Rattle.psac_marks.proofs.Terms.{sym, subst, Handle, Member, MarksView, Owns, Childless}
 use Rattle.psac_marks.proofs.marks.Marks.release.Goals as goal
 
 pub put_back-requires-clause-out : goal.put_back-requires-clause-out

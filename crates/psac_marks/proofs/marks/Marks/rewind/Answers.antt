@@ -1,5 +1,4 @@
-use Rattle.std.proofs.Common.{ℕ, ◌≡◌, sym, ap, subst, ◌∙◌, arith, refl, ◌+◌, ◌-◌}
-use Rattle.psac_marks.proofs.Terms.{IsSole, Accounted, turned, gone_is, rest_is, MarksView, rewound, Holds, IsClosed, Carries}
+use Rattle.psac_marks.proofs.Terms.{ℕ, ◌≡◌, sym, ap, subst, ◌∙◌, arith, refl, ◌+◌, ◌-◌, IsSole, Accounted, turned, gone_is, rest_is, MarksView, rewound, Holds, IsClosed, Carries}
 use Rattle.psac_marks.proofs.Acts.{loads}
 use Rattle.psac_marks.proofs.Regaining.{rewinds}
 use Rattle.psac_marks.proofs.Handed.{carries_rewound, holds_rewound}

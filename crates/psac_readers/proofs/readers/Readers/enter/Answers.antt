@@ -1,5 +1,4 @@
-use Rattle.std.proofs.Common.{◌≡◌, ℕ, ◌<◌, ◌+◌, ◌%◌, [], length, sym, ap, subst, refl, ◌∙◌, arith, mod-lt}
-use Rattle.psac_readers.proofs.Terms.{within, handle_at, place_is, sum_by, Has, drew, entered, named, Carries, entry, new_link, noded, way}
+use Rattle.psac_readers.proofs.Terms.{◌≡◌, ℕ, ◌<◌, ◌+◌, ◌%◌, [], length, sym, ap, subst, refl, ◌∙◌, arith, mod-lt, within, handle_at, place_is, sum_by, Has, drew, entered, named, Carries, entry, new_link, noded, way}
 use Rattle.psac_readers.proofs.Acts.{draws, loads, nodes, swaps, comes}
 use Rattle.psac_readers.proofs.Entering.{Got, got, last, carries, F_node, F_swap, still_has}
 use Rattle.psac_readers.proofs.readers.Readers.enter.Goals as goal

@@ -1,5 +1,4 @@
-use Rattle.std.proofs.Common.{ℕ, List, ◌≡◌, ◌≤◌, sym, ap, subst, ◌∙◌, arith, Some}
-use Rattle.psac_readers.proofs.Terms.{sum_by, IfSome, ReadersView, Member, Each, mods_of, named, Fine, IsSet, chain_of, learned, next_live, Carries, Walks, OnWalk, or_empty, has_word, from_word}
+use Rattle.psac_readers.proofs.Terms.{ℕ, List, ◌≡◌, ◌≤◌, sym, ap, subst, ◌∙◌, arith, Some, sum_by, IfSome, ReadersView, Member, Each, mods_of, named, Fine, IsSet, chain_of, learned, next_live, Carries, Walks, OnWalk, or_empty, has_word, from_word}
 use Rattle.psac_readers.proofs.Acts.{begins}
 use Rattle.psac_readers.proofs.Carrying.{carries_learned}
 use Rattle.psac_readers.proofs.Walking.{chain_learn, word_whole, on_walk}

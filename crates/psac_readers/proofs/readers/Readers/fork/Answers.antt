@@ -1,5 +1,4 @@
-use Rattle.std.proofs.Common.{ℕ, length, sym, ap, subst, ◌∙◌, arith}
-use Rattle.psac_readers.proofs.Terms.{ReadersView, Carries}
+use Rattle.psac_readers.proofs.Terms.{ℕ, length, sym, ap, subst, ◌∙◌, arith, ReadersView, Carries}
 use Rattle.psac_readers.proofs.Sides.{splits_at}
 use Rattle.psac_readers.proofs.Carrying.{carries_left, carries_right}
 use Rattle.psac_readers.proofs.readers.Readers.fork.Goals as goal

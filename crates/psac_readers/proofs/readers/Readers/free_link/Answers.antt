@@ -1,5 +1,4 @@
-use Rattle.std.proofs.Common.{List, ℕ, ◌≡◌, ◌<◌, ◌+◌, ◌%◌, suc, refl, sym, ap, subst, ◌∙◌, arith, length, Some, mod-lt, true, ◌++◌, ◌∷◌}
-use Rattle.psac_readers.proofs.Terms.{one_more, sum_by, Step, place as place_of, Accounted, ReadersView, named, alive, mods_of, head_at, Each, Seat, Unlinked, revived, unlinked, freed, swept_one, chain_of, led_from, Fine, Carries, Placing, Member}
+use Rattle.psac_readers.proofs.Terms.{List, ℕ, ◌≡◌, ◌<◌, ◌+◌, ◌%◌, suc, refl, sym, ap, subst, ◌∙◌, arith, length, Some, mod-lt, true, ◌++◌, ◌∷◌, one_more, sum_by, Step, place as place_of, Accounted, ReadersView, named, alive, mods_of, head_at, Each, Seat, Unlinked, revived, unlinked, freed, swept_one, chain_of, led_from, Fine, Carries, Placing, Member}
 use Rattle.psac_slots.specs.Handles as handles
 use Rattle.psac_readers.proofs.Freeing.{revives, unlinks, frees}
 use Rattle.psac_readers.proofs.Walking.{named_low}

@@ -1,5 +1,4 @@
-use Rattle.std.proofs.Common.{sym, ap, subst, ◌∙◌, arith}
-use Rattle.psac_readers.proofs.Terms.{one_more, Member, ReadersView, rewound, Fine, Holds, Each, AllGiven}
+use Rattle.psac_readers.proofs.Terms.{sym, ap, subst, ◌∙◌, arith, one_more, Member, ReadersView, rewound, Fine, Holds, Each, AllGiven}
 use Rattle.psac_readers.proofs.Sweeping.{one_given, all_gone}
 use Rattle.psac_readers.proofs.readers.Readers.give_all.Goals as goal
 

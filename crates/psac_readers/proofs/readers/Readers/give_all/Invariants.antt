@@ -1,5 +1,4 @@
-use Rattle.std.proofs.Common.{◌≡◌, Some}
-use Rattle.psac_readers.proofs.Terms.{Accounted, rewound, AllGiven}
+use Rattle.psac_readers.proofs.Terms.{◌≡◌, Some, Accounted, rewound, AllGiven}
 use Rattle.psac_readers.proofs.readers.Readers.give_all.Given as goal
 
 abbrev pub invariant-loop-m : goal.invariant-loop-m

@@ -1,5 +1,4 @@
-use Rattle.std.proofs.Common.{ℕ, sym, ap, subst, ◌∙◌, arith}
-use Rattle.psac_readers.proofs.Terms.{Member, ReadersView, mods_of, IsSet, learned, Carries}
+use Rattle.psac_readers.proofs.Terms.{ℕ, sym, ap, subst, ◌∙◌, arith, Member, ReadersView, mods_of, IsSet, learned, Carries}
 use Rattle.psac_readers.proofs.Acts.{begins}
 use Rattle.psac_readers.proofs.Carrying.{carries_learned}
 use Rattle.psac_readers.proofs.readers.Readers.head_of.Goals as goal

@@ -1,5 +1,4 @@
-use Rattle.std.proofs.Common.{ℕ, zero, suc, true, false, true≢false, ◌≡◌, ◌<◌, sym, ap, subst, ◌∙◌, arith}
-use Rattle.psac_readers.proofs.Terms.{sum_by, not, ◌==◌, eqb-true, IsSole, deads}
+use Rattle.psac_readers.proofs.Terms.{ℕ, zero, suc, true, false, true≢false, ◌≡◌, ◌<◌, sym, ap, subst, ◌∙◌, arith, sum_by, not, ◌==◌, eqb-true, IsSole, deads}
 use Rattle.psac_readers.proofs.Acts.{loads}
 use Rattle.psac_readers.proofs.Links.{on_then}
 use Rattle.psac_readers.proofs.readers.Readers.is_dead.Goals as goal

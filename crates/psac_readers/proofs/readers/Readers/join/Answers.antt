@@ -1,5 +1,4 @@
-use Rattle.std.proofs.Common.{ℕ, ◌<◌, ◌≤◌, sym, ap, subst, ◌∙◌, arith}
-use Rattle.psac_readers.proofs.Terms.{sum_by, set_else, ReadersView, named, joined, Carries}
+use Rattle.psac_readers.proofs.Terms.{ℕ, ◌<◌, ◌≤◌, sym, ap, subst, ◌∙◌, arith, sum_by, set_else, ReadersView, named, joined, Carries}
 use Rattle.psac_readers.proofs.Acts.{loads}
 use Rattle.psac_readers.proofs.Sides.{joins_at}
 use Rattle.psac_readers.proofs.Carrying.{carries_joined}

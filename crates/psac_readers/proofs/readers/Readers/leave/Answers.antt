@@ -1,5 +1,4 @@
-use Rattle.std.proofs.Common.{ℕ, ◌<◌, sym, ap, subst, ◌∙◌, arith}
-use Rattle.psac_readers.proofs.Terms.{sum_by, ReadersView, alive, Carries}
+use Rattle.psac_readers.proofs.Terms.{ℕ, ◌<◌, sym, ap, subst, ◌∙◌, arith, sum_by, ReadersView, alive, Carries}
 use Rattle.psac_readers.proofs.Acts.{leaves}
 use Rattle.psac_readers.proofs.Carrying.{alive_low, carries_dead}
 use Rattle.psac_readers.proofs.readers.Readers.leave.Goals as goal

@@ -1,5 +1,4 @@
-use Rattle.std.proofs.Common.{◌≡◌, ℕ, ◌+◌, ◌*◌, ◌∷◌, [], List, length, sym, subst, arith, ◌∙◌, ap}
-use Rattle.psac_readers.proofs.Terms.{Readable, first_view, first_words, Carries}
+use Rattle.psac_readers.proofs.Terms.{◌≡◌, ℕ, ◌+◌, ◌*◌, ◌∷◌, [], List, length, sym, subst, arith, ◌∙◌, ap, Readable, first_view, first_words, Carries}
 use Rattle.psac_readers.proofs.Opens.{opens, length_words, first_carries}
 use Rattle.psac_readers.proofs.readers.Readers.new.Goals as goal
 

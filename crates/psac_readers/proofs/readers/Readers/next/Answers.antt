@@ -1,5 +1,4 @@
-use Rattle.std.proofs.Common.{ℕ, List, ◌≡◌, ◌<◌, ◌≤◌, sym, ap, subst, ◌∙◌, arith}
-use Rattle.psac_readers.proofs.Terms.{same_some, sum_by, ReadersView, Each, named, times, Fine, chain_of, set_of, next_live, behind, or_empty, has_word, from_word, Walks}
+use Rattle.psac_readers.proofs.Terms.{ℕ, List, ◌≡◌, ◌<◌, ◌≤◌, sym, ap, subst, ◌∙◌, arith, same_some, sum_by, ReadersView, Each, named, times, Fine, chain_of, set_of, next_live, behind, or_empty, has_word, from_word, Walks}
 use Rattle.psac_readers.proofs.Acts.{loads}
 use Rattle.psac_readers.proofs.Walking.{chain_named, named_low, all_whole, word_behind, behind_on, on_walk}
 use Rattle.psac_readers.proofs.readers.Readers.next.Goals as goal

@@ -1,6 +1,4 @@
-use Rattle.std.proofs.Common.{◌<◌, sym, ap, subst, ◌∙◌, arith, Some}
-use Rattle.std.proofs.Math.Nat.{div-add-mod'}
-use Rattle.psac_readers.proofs.Terms.{sum_by, named, node_in}
+use Rattle.psac_readers.proofs.Terms.{◌<◌, sym, ap, subst, ◌∙◌, arith, Some, div-add-mod', sum_by, named, node_in}
 use Rattle.psac_readers.proofs.Acts.{loads}
 use Rattle.psac_readers.proofs.Walking.{named_low, node_known}
 use Rattle.psac_readers.proofs.readers.Readers.node.Goals as goal

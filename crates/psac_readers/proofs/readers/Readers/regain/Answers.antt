@@ -1,5 +1,4 @@
-use Rattle.std.proofs.Common.{ℕ, sym, ap, subst, ◌∙◌, arith}
-use Rattle.psac_readers.proofs.Terms.{ReadersView, Carries}
+use Rattle.psac_readers.proofs.Terms.{ℕ, sym, ap, subst, ◌∙◌, arith, ReadersView, Carries}
 use Rattle.psac_readers.proofs.Acts.{regains}
 use Rattle.psac_readers.proofs.Carrying.{carries_regained}
 use Rattle.psac_readers.proofs.readers.Readers.regain.Goals as goal

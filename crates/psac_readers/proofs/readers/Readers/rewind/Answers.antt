@@ -1,5 +1,4 @@
-use Rattle.std.proofs.Common.{ℕ, ◌≡◌, sym, ap, subst, ◌∙◌, arith, refl, ◌≤◌, ◌+◌, ◌-◌}
-use Rattle.psac_readers.proofs.Terms.{sum_by, named, IsSole, Accounted, turned, rewound, Holds, ReadersView, Carries, gone_is, rest_is}
+use Rattle.psac_readers.proofs.Terms.{ℕ, ◌≡◌, sym, ap, subst, ◌∙◌, arith, refl, ◌≤◌, ◌+◌, ◌-◌, sum_by, named, IsSole, Accounted, turned, rewound, Holds, ReadersView, Carries, gone_is, rest_is}
 use Rattle.psac_readers.proofs.Acts.{loads, rewinds}
 use Rattle.psac_readers.proofs.Carrying.{carries_rewound}
 use Rattle.psac_readers.proofs.readers.Readers.rewind.Goals as goal

@@ -1,5 +1,4 @@
-use Rattle.std.proofs.Common.{◌+◌, sym, ap, subst, ◌∙◌, arith}
-use Rattle.psac_readers.proofs.Terms.{Accounted, ReadersView, Going}
+use Rattle.psac_readers.proofs.Terms.{◌+◌, sym, ap, subst, ◌∙◌, arith, Accounted, ReadersView, Going}
 use Rattle.psac_readers.proofs.Sweeping.{sets_out}
 use Rattle.psac_readers.proofs.readers.Readers.take_off.Goals as goal
 

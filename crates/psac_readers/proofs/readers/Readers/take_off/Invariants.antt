@@ -1,5 +1,4 @@
-use Rattle.std.proofs.Common.{◌≡◌, Some}
-use Rattle.psac_readers.proofs.Terms.{Accounted, Going, remaining}
+use Rattle.psac_readers.proofs.Terms.{◌≡◌, Some, Accounted, Going, remaining}
 use Rattle.psac_readers.proofs.readers.Readers.take_off.Given as goal
 
 abbrev pub invariant-loop-word : goal.invariant-loop-word

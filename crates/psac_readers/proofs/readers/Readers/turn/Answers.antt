@@ -1,5 +1,4 @@
-use Rattle.std.proofs.Common.{◌≡◌, ◌⊎◌, ℕ, suc, ◌-◌, ◌<◌, ◌∷◌, ◌++◌, length, true, sym, ap, subst, ◌∙◌, arith}
-use Rattle.psac_readers.proofs.Terms.{sum_by, ReadersView, next_at, named, alive, deads, swept_one, Placing, Going}
+use Rattle.psac_readers.proofs.Terms.{◌≡◌, ◌⊎◌, ℕ, suc, ◌-◌, ◌<◌, ◌∷◌, ◌++◌, length, true, sym, ap, subst, ◌∙◌, arith, sum_by, ReadersView, next_at, named, alive, deads, swept_one, Placing, Going}
 use Rattle.psac_readers.proofs.Walking.{named_low}
 use Rattle.psac_readers.proofs.Sweeping.{first_of, left_over, on_it, walks_it, names_it, leads_on, placed_it, stayed, stayed_rest, went, went_rest, shorter}
 use Rattle.psac_readers.proofs.readers.Readers.turn.Goals as goal

@@ -1,5 +1,4 @@
-use Rattle.std.proofs.Common.{ℕ, suc, ◌+◌, ◌*◌, ◌%◌, ◌∷◌, ◌++◌, [], map, ◌≤◌, ◌<◌, ◌≡◌, length, sym, ap, subst, ◌∙◌, arith, mod-lt, refl, inl}
-use Rattle.psac_values.proofs.Terms.{one_more, handle_at, past_entry, within, Step, Member, slot_times, entry, member_right, map_member, ValueView, state_at, handle_of, Seat, Drew, Loaded, Tells, Lacks, drew, new_state, marked, Carries, took}
+use Rattle.psac_values.proofs.Terms.{ℕ, suc, ◌+◌, ◌*◌, ◌%◌, ◌∷◌, ◌++◌, [], map, ◌≤◌, ◌<◌, ◌≡◌, length, sym, ap, subst, ◌∙◌, arith, mod-lt, refl, inl, one_more, handle_at, past_entry, within, Step, Member, slot_times, entry, member_right, map_member, ValueView, state_at, handle_of, Seat, Drew, Loaded, Tells, Lacks, drew, new_state, marked, Carries, took}
 use Rattle.psac_values.proofs.Acts.{draws, loads, marks}
 use Rattle.psac_values.proofs.Carrying.{carried, carries_past, carries_took, found_here, drawn_once}
 use Rattle.psac_values.proofs.values.Values.claim.Goals as goal

@@ -1,5 +1,4 @@
-use Rattle.std.proofs.Common.{ℕ, length, sym, ap, subst, ◌∙◌, arith}
-use Rattle.psac_values.proofs.Terms.{ValueView, Carries}
+use Rattle.psac_values.proofs.Terms.{ℕ, length, sym, ap, subst, ◌∙◌, arith, ValueView, Carries}
 use Rattle.psac_values.proofs.Acts.{splits}
 use Rattle.psac_values.proofs.Carrying.{carries_left, carries_right}
 use Rattle.psac_values.proofs.values.Values.fork.Goals as goal

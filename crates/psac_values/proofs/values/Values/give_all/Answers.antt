@@ -1,5 +1,4 @@
-use Rattle.std.proofs.Common.{◌≡◌, suc, ◌+◌, sym, ap, subst, ◌∙◌, arith}
-use Rattle.psac_values.proofs.Terms.{Member, member_filter, ValueView, rewound, gave_slot, gave_all, held_from}
+use Rattle.psac_values.proofs.Terms.{◌≡◌, suc, ◌+◌, sym, ap, subst, ◌∙◌, arith, Member, member_filter, ValueView, rewound, gave_slot, gave_all, held_from}
 use Rattle.psac_values.proofs.Giving.{gave_below, begins, goes_on, ends}
 use Rattle.psac_values.proofs.values.Values.give_all.Goals as goal
 

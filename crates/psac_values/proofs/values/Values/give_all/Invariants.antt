@@ -1,5 +1,4 @@
-use Rattle.std.proofs.Common.{◌≡◌}
-use Rattle.psac_values.proofs.Terms.{Accounted, rewound}
+use Rattle.psac_values.proofs.Terms.{◌≡◌, Accounted, rewound}
 use Rattle.psac_values.proofs.Giving.{gave_below}
 use Rattle.psac_values.proofs.values.Values.give_all.Given as goal
 

@@ -1,5 +1,4 @@
-use Rattle.std.proofs.Common.{ℕ, ◌-◌, refl, ◌≡◌, ◌+◌, ◌%◌, ◌/◌, ◌<◌, Some, sym, ap, subst, ◌∙◌, arith}
-use Rattle.psac_values.proofs.Terms.{Member, IsDistinct, ValueView, Handle, Tells, gave, gave_slot, made_handle, Carries, IsOut, claimed_as}
+use Rattle.psac_values.proofs.Terms.{ℕ, ◌-◌, refl, ◌≡◌, ◌+◌, ◌%◌, ◌/◌, ◌<◌, Some, sym, ap, subst, ◌∙◌, arith, Member, IsDistinct, ValueView, Handle, Tells, gave, gave_slot, made_handle, Carries, IsOut, claimed_as}
 use Rattle.psac_values.proofs.Acts.{loads}
 use Rattle.psac_values.proofs.Giving.{was_out, was_free, gave_one}
 use Rattle.psac_values.proofs.values.Values.give_slot.Goals as goal

@@ -1,5 +1,4 @@
-use Rattle.std.proofs.Common.{◌+◌, ◌*◌, sym, ap, subst, ◌∙◌, arith, inr, ⊎_elim, true≢false}
-use Rattle.psac_values.proofs.Terms.{eq-eqb, eqb-true, IsSole, ValueView, IsLive, IsOut}
+use Rattle.psac_values.proofs.Terms.{◌+◌, ◌*◌, sym, ap, subst, ◌∙◌, arith, inr, ⊎_elim, true≢false, eq-eqb, eqb-true, IsSole, ValueView, IsLive, IsOut}
 use Rattle.psac_values.proofs.Acts.{loads}
 use Rattle.psac_values.proofs.Carrying.{told_out, out_low}
 use Rattle.psac_values.proofs.values.Values.is_live.Goals as goal

@@ -1,5 +1,4 @@
-use Rattle.std.proofs.Common.{◌≡◌, ◌<◌, ◌+◌, sym, ap, subst, ◌∙◌, arith, length, Option}
-use Rattle.psac_values.proofs.Terms.{IfSome, Member, MetView, OwnedView, StateView, ValueView, Meeting, joined, United}
+use Rattle.psac_values.proofs.Terms.{◌≡◌, ◌<◌, ◌+◌, sym, ap, subst, ◌∙◌, arith, length, Option, IfSome, Member, MetView, OwnedView, StateView, ValueView, Meeting, joined, United}
 use Rattle.psac_values.proofs.Acts.{joins, settles}
 use Rattle.psac_values.proofs.Carrying.{carried, carries_joined, unites_views}
 use Rattle.psac_values.proofs.values.Values.join.Goals as goal

@@ -1,5 +1,4 @@
-use Rattle.std.proofs.Common.{◌≡◌, ℕ, ◌+◌, ◌*◌, ◌∷◌, ◌++◌, [], List, length, map, sym, subst, arith, ◌∙◌, ap, append_assoc}
-use Rattle.psac_values.proofs.Terms.{word_of, fresh, Rule, first_view, first_words, repeated, Carries}
+use Rattle.psac_values.proofs.Terms.{◌≡◌, ℕ, ◌+◌, ◌*◌, ◌∷◌, ◌++◌, [], List, length, map, sym, subst, arith, ◌∙◌, ap, append_assoc, word_of, fresh, Rule, first_view, first_words, repeated, Carries}
 use Rattle.psac_values.proofs.Opens.{opens, length_first, first_carries}
 use Rattle.psac_values.proofs.values.Values.new.Goals as goal
 

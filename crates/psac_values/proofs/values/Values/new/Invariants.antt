@@ -1,5 +1,4 @@
-use Rattle.std.proofs.Common.{◌≡◌, ◌∷◌, ◌++◌, map}
-use Rattle.psac_values.proofs.Terms.{word_of, fresh, repeated}
+use Rattle.psac_values.proofs.Terms.{◌≡◌, ◌∷◌, ◌++◌, map, word_of, fresh, repeated}
 use Rattle.psac_values.proofs.values.Values.new.Given as goal
 
 abbrev pub invariant-loop-slot : goal.invariant-loop-slot

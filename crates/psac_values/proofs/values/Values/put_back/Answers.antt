@@ -1,5 +1,4 @@
-use Rattle.std.proofs.Common.{◌≡◌, ◌<◌, ℕ, suc, ◌+◌, ◌-◌, ◌*◌, ◌%◌, List, length, sym, ap, subst, ◌∙◌, arith, mod-lt, cond}
-use Rattle.psac_values.proofs.Terms.{one_more, twice, eq-eqb, Handle, Member, word_of, later, slot_times, place, Accounted, map_member, member_times, StateView, ValueView, state_at, free_word, Seat, mark, marked, gave, IsOut, claimed_as, Carries}
+use Rattle.psac_values.proofs.Terms.{◌≡◌, ◌<◌, ℕ, suc, ◌+◌, ◌-◌, ◌*◌, ◌%◌, List, length, sym, ap, subst, ◌∙◌, arith, mod-lt, cond, one_more, twice, eq-eqb, Handle, Member, word_of, later, slot_times, place, Accounted, map_member, member_times, StateView, ValueView, state_at, free_word, Seat, mark, marked, gave, IsOut, claimed_as, Carries}
 use Rattle.psac_values.proofs.Giving.{gave_whole}
 use Rattle.psac_values.proofs.Acts.{marks, gives}
 use Rattle.psac_values.proofs.Carrying.{carried, state_of, has_room, gave_marked, carries_gave}

@@ -1,5 +1,4 @@
-use Rattle.std.proofs.Common.{◌≡◌, ℕ, suc, ◌+◌, ◌*◌, sym, ap, subst, ◌∙◌, arith}
-use Rattle.psac_values.proofs.Terms.{one_more, ValueView, Carries, Knows, Tells}
+use Rattle.psac_values.proofs.Terms.{◌≡◌, ℕ, suc, ◌+◌, ◌*◌, sym, ap, subst, ◌∙◌, arith, one_more, ValueView, Carries, Knows, Tells}
 use Rattle.psac_values.proofs.Acts.{looks, loads}
 use Rattle.psac_values.proofs.Carrying.{known_low, words_read, carries_looked}
 use Rattle.psac_values.proofs.values.Values.read.Goals as goal

@@ -1,5 +1,4 @@
-use Rattle.std.proofs.Common.{ℕ, sym, ap, subst, ◌∙◌, arith}
-use Rattle.psac_values.proofs.Terms.{ValueView, Carries}
+use Rattle.psac_values.proofs.Terms.{ℕ, sym, ap, subst, ◌∙◌, arith, ValueView, Carries}
 use Rattle.psac_values.proofs.Acts.{learns}
 use Rattle.psac_values.proofs.Carrying.{carries_learned}
 use Rattle.psac_values.proofs.values.Values.regain.Goals as goal

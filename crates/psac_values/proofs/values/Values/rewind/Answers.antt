@@ -1,5 +1,4 @@
-use Rattle.std.proofs.Common.{ℕ, ◌≡◌, sym, ap, subst, ◌∙◌, arith, refl, ◌+◌, ◌-◌}
-use Rattle.psac_values.proofs.Terms.{IsSole, Accounted, turned, rewound, ValueView, Carries, gone_is, rest_is}
+use Rattle.psac_values.proofs.Terms.{ℕ, ◌≡◌, sym, ap, subst, ◌∙◌, arith, refl, ◌+◌, ◌-◌, IsSole, Accounted, turned, rewound, ValueView, Carries, gone_is, rest_is}
 use Rattle.psac_values.proofs.Acts.{loads, rewinds}
 use Rattle.psac_values.proofs.Carrying.{carries_rewound}
 use Rattle.psac_values.proofs.values.Values.rewind.Goals as goal

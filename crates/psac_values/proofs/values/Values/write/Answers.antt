@@ -1,5 +1,4 @@
-use Rattle.std.proofs.Common.{◌≡◌, ℕ, ◌+◌, ◌*◌, [], ◌∷◌, get_or, sym, ap, subst, ◌∙◌, arith}
-use Rattle.psac_values.proofs.Terms.{Handle, Member, map_member, OwnedView, ValueView, Has, wrote, put, wrote_word, value_at}
+use Rattle.psac_values.proofs.Terms.{◌≡◌, ℕ, ◌+◌, ◌*◌, [], ◌∷◌, get_or, sym, ap, subst, ◌∙◌, arith, Handle, Member, map_member, OwnedView, ValueView, Has, wrote, put, wrote_word, value_at}
 use Rattle.psac_values.proofs.Acts.{writes}
 use Rattle.psac_values.proofs.Carrying.{carried, carries_word, rewrites}
 use Rattle.psac_values.proofs.values.Values.write.Goals as goal
