@@ -1,20 +1,24 @@
 -- What a pass of marks carries after each step.
 use Rattle.psac_marks.proofs.Terms.{◌≡◌, ◌≢◌, ℕ, suc, ◌+◌, ◌/◌, ◌%◌, ◌<◌, ◌≤◌, List, [], ◌∷◌, ◌++◌, map, length, refl, sym, ap, ◌∙◌, subst, inl, inr, ⊎_elim, arith, Option, Some, None, cond, HasOwn, Owns, none_some, same_some as some_same, ◌==◌, IfSome, map-append, sum_by_push, eq-eqb, ne_eqb, Handle, Member, slot_times, IsDistinct, bit, member_cases, map_member, member_times, claimed_entry, OwnView, StateView, MarksView, Place, own_place, shared_place, places, Has, handle_of, out_word, free_word, Tells, new_own, new_state, drew, Lacks, hang, hung, put, stated, cleared, asked, detached, Carries, Keeps, slot_of, climbed, took}
 use Rattle.psac_slots.specs.Claiming as claiming
+use Rattle.psac_slots.proofs.Carrying.{Ringed}
 use Rattle.psac_marks.proofs.Parts.{each_place, place_own, place_shared}
 use Rattle.psac_marks.proofs.Stays.{back_again}
 
 module _ (nodes head room words : ℕ) (v : MarksView) (p : Carries nodes head room words v) where
-  -- the same ring and the same sizes
-  pub renewed : (w : MarksView) → w.claims.live ≡ v.claims.live → w.claims.count ≡ v.claims.count → w.claims.head ≡ v.claims.head → w.claims.list ≡ v.claims.list → w.climb ≡ None → map handle_of w.states ≡ w.claims.held
-      → ((t : StateView) → Member t w.states → (t.word ≡ out_word t.of) × (t.of.slot < nodes)) → ((e : Place) → Member e (places w) → e.node.slot < nodes) → Carries nodes head room words w
-  renewed w a b c d e held out low = record {
-    live = a ∙ p.live;
-    nodes_is = b ∙ p.nodes_is;
-    head_is = c ∙ p.head_is;
-    room_is = ap length d ∙ p.room_is;
-    room_fits = p.room_fits;
-    head_fits = p.head_fits;
+  pub ring_here : Ringed nodes head room v.claims
+  ring_here = (p.live, p.nodes_is, p.head_is, p.room_is, p.room_fits, p.head_fits)
+
+  -- a ring, and the same sizes
+  pub renewed : (at left : ℕ) (w : MarksView) → Ringed nodes at left w.claims → w.climb ≡ None → map handle_of w.states ≡ w.claims.held
+      → ((t : StateView) → Member t w.states → (t.word ≡ out_word t.of) × (t.of.slot < nodes)) → ((e : Place) → Member e (places w) → e.node.slot < nodes) → Carries nodes at left words w
+  renewed at left w r e held out low = record {
+    live = r.0;
+    nodes_is = r.1;
+    head_is = r.2;
+    room_is = r.3;
+    room_fits = r.4;
+    head_fits = r.5;
     words_is = p.words_is;
     small = p.small;
     climb = e;
@@ -35,20 +39,20 @@ module _ (nodes head room words : ℕ) (v : MarksView) (p : Carries nodes head r
       ((k.0, k.1, s), subst (λ n. n < nodes) s (p.low (own_place v.claims.branch k.0) (place_own v k.0 k.1)))
 
   pub carries_cleared : (x : ℕ) → Carries nodes head room words (cleared x v)
-  carries_cleared x = renewed (cleared x v) refl refl refl refl p.climb p.held_is p.out p.low
+  carries_cleared x = renewed head room (cleared x v) ring_here p.climb p.held_is p.out p.low
 
   pub carries_asked : Carries nodes head room words (asked v)
-  carries_asked = renewed (asked v) refl refl refl refl p.climb p.held_is p.out p.low
+  carries_asked = renewed head room (asked v) ring_here p.climb p.held_is p.out p.low
 
   pub carries_detached : (x : ℕ) → Carries nodes head room words (detached x v)
-  carries_detached x = renewed (detached x v) refl refl refl refl p.climb p.held_is p.out p.low
+  carries_detached x = renewed head room (detached x v) ring_here p.climb p.held_is p.out p.low
 
   pub carries_climbed : (xs : List ℕ) (end : Option ℕ) → Carries nodes head room words (climbed xs end v)
-  carries_climbed xs end = renewed (climbed xs end v) refl refl refl refl p.climb p.held_is p.out p.low
+  carries_climbed xs end = renewed head room (climbed xs end v) ring_here p.climb p.held_is p.out p.low
 
   -- a claim past the room changes the drawn indexes alone
   pub carries_past : (n : ℕ) → claiming.entry v.claims.list n ≡ [] → Carries nodes head room words (drew v n)
-  carries_past n e = renewed (drew v n) refl refl refl refl p.climb
+  carries_past n e = renewed head room (drew v n) ring_here p.climb
       (map-append handle_of v.states (map new_state (claiming.entry v.claims.list n)) ∙ (λ i. p.held_is i ++ back_again (claiming.entry v.claims.list n) i))
       (λ t m. ⊎_elim (λ q. p.out t q) (λ q. absurd (subst (Member t) (ap (map new_state) e) q)) (member_cases t v.states (map new_state (claiming.entry v.claims.list n)) m))
       (each_place (drew v n) (λ k. k.node.slot < nodes)
@@ -57,7 +61,7 @@ module _ (nodes head room words : ℕ) (v : MarksView) (p : Carries nodes head r
 
   -- a claim of a node
   pub carries_took : (n : ℕ) (h : Handle) (par : Option ℕ) → claiming.entry v.claims.list n ≡ h ∷ [] → h.slot < v.claims.count → Carries nodes head room words (took v n h par)
-  carries_took n h par e low = renewed (took v n h par) refl refl refl refl p.climb
+  carries_took n h par e low = renewed head room (took v n h par) ring_here p.climb
       (map-append handle_of v.states (record { of = h; word = out_word h } ∷ []) ∙ (λ i. p.held_is i ++ sym e i))
       (λ t m. ⊎_elim (λ q. p.out t q)
       (λ q. ⊎_elim (λ (z : record { of = h; word = out_word h } ≡ t). subst (λ (y : StateView). (y.word ≡ out_word y.of) × (y.of.slot < nodes)) z (refl, (let k = p.nodes_is in omega (arith, low, k)))) (λ b. absurd b) q)

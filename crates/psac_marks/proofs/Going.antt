@@ -1,6 +1,7 @@
 -- What the four stores of a node's going make of a view.
 use Rattle.psac_marks.proofs.Terms.{◌≡◌, ◌≢◌, ℕ, suc, ◌+◌, ◌*◌, ◌/◌, ◌%◌, ◌<◌, ◌≤◌, List, [], ◌∷◌, map, Bool, true, false, refl, sym, ap, ◌∙◌, subst, ⊎_elim, arith, Option, Some, None, length-append, cond, none_some, filter, not, ◌==◌, eq-eqb, ne_eqb, cases_eq, cases_lt, Handle, Member, later, removed, slot_times, times, Accounted, accounted_returned, member_map, map_member, member_filter, member_times, found, OwnView, StateView, MarksView, own_place, shared_place, handle_of, free_word, state_at, other_own, other_state, hang, hung, put, stated, cleared, gave, released, Tells, Carries, Owns, Bare, Childless, filtered}
 use Rattle.psac_slots.proofs.Carrying as ring
+use Rattle.psac_marks.proofs.Carrying.{renewed, ring_here}
 use Rattle.psac_marks.proofs.Parts.{each_place, times_gone, place_own, place_shared}
 use Rattle.psac_marks.proofs.Giving.{MayGo}
 
@@ -69,21 +70,10 @@ module _ (nodes head room words : ℕ) (v : MarksView) (p : Carries nodes head r
   has_room = let a = ring.has_room v.claims fit g (member_times g v.claims.held m) in let c = p.room_is in let d = p.nodes_is in omega (arith, a, c, d)
 
   pub carries_released : Carries nodes head (room + 1) words (released g v)
-  carries_released = record {
-    live = p.live;
-    nodes_is = p.nodes_is;
-    head_is = p.head_is;
-    room_is = (let a = length-append v.claims.list (later g ∷ []) in let b = p.room_is in omega (arith, a, b));
-    room_fits = (let a = has_room in omega (arith, a));
-    head_fits = p.head_fits;
-    words_is = p.words_is;
-    small = p.small;
-    climb = p.climb;
-    out = λ t mt. p.out t (member_filter (other_state g.slot) t v.states mt).0;
-    held_is = filtered handle_of g.slot v.states ∙ ap (removed g.slot) p.held_is;
-    low = each_place (released g v) (λ e. e.node.slot < nodes)
-        (λ o mo. p.low (own_place v.claims.branch o) (place_own v o (member_filter (other_own g.slot) o v.own mo).0)) (λ s ms. p.low (shared_place s) (place_shared v s ms));
-  }
+  carries_released = renewed nodes head room words v p head (room + 1) (released g v) (ring.ringed_returned nodes head room v.claims (ring_here nodes head room words v p) (later g) has_room)
+      p.climb (filtered handle_of g.slot v.states ∙ ap (removed g.slot) p.held_is) (λ t mt. p.out t (member_filter (other_state g.slot) t v.states mt).0)
+      (each_place (released g v) (λ e. e.node.slot < nodes)
+      (λ o mo. p.low (own_place v.claims.branch o) (place_own v o (member_filter (other_own g.slot) o v.own mo).0)) (λ s ms. p.low (shared_place s) (place_shared v s ms)))
 
 -- what the state of a slot tells a sole pass
 module _ (nodes head room words : ℕ) (v : MarksView) (p : Carries nodes head room words v) (x i n : ℕ) (sole : v.claims.counter ≡ Some 0) (t : Tells v i n) (low : x < nodes) (is : i ≡ state_at nodes x) where

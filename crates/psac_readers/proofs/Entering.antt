@@ -2,7 +2,7 @@
 use Rattle.psac_readers.proofs.Terms.{◌≡◌, ℕ, ◌+◌, ◌%◌, ◌<◌, List, [], ◌∷◌, ◌++◌, map, length, cond, refl, sym, ap, ◌∙◌, arith, subst, inl, inr, ⊎_elim, handle_at, sum_by, sum_by-cons, eq-eqb, none as vacant, get_elem?, step, claimed_entry, LinkView, ReadersView, named, mods_of, Seat, new_link, drew, on_head, noded, swapped, came, entered, Loaded, Has, Carries, Member}
 use Rattle.psac_slots.specs.Claiming as claiming
 use Rattle.psac_readers.proofs.Links.{mods_forget}
-use Rattle.psac_readers.proofs.Carrying.{renewed}
+use Rattle.psac_readers.proofs.Carrying.{renewed, ring_here}
 
 abbrev pub with_links : ReadersView → ℕ → List LinkView → ReadersView
 with_links v n ks = record (drew v n) { links = ks }
@@ -43,7 +43,7 @@ last v n word m x old me2 me3 me4 me5 g e3 e4 e5 = e5 ∙ ap F_came (e4 ∙ ap (
 
 -- what a pass carries after an enter
 pub carries : (links mods head room words n m x l : ℕ) (v : ReadersView) → Carries links mods head room words v → l < links → Carries links mods head room words (entered v n m x l)
-carries links mods head room words n m x l v c low = renewed links mods head room words v c (entered v n m x l) refl refl refl refl refl (record { low = low; settled = refl; node = (x, refl) }, c.fine)
+carries links mods head room words n m x l v c low = renewed links mods head room words v c head room (entered v n m x l) (ring_here links mods head room words v c) refl (record { low = low; settled = refl; node = (x, refl) }, c.fine)
 
 -- an enter keeps the sets that the pass has
 pub still_has : (v w : ReadersView) (n m x l : ℕ) → w ≡ entered v n m x l → (y : ℕ) → Has y v → Has y w

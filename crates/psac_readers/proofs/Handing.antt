@@ -2,6 +2,8 @@
 use Rattle.psac_readers.proofs.Terms.{◌≡◌, ℕ, ◌+◌, ◌<◌, List, [], ◌∷◌, ◌++◌, map, length, Bool, true, false, cond, refl, ap, ◌∙◌, ⊎_elim, arith, length-append, sum_map, sum_by, filter, not, ◌==◌, sum_by-cons, Handle, has_room, accounted_returned, Stage, LinkView, ReadersView, head_at, times, in_set, is_live, named, alive, Each, reviving, revive, revived, leaving, take_off, lose, unlinked, other_link, freed, swept_one, is_settled, Fine, led_from, IsSet, Carries}
 use Rattle.psac_slots.specs.Handles as handles
 use Rattle.psac_slots.specs.Claiming as claiming
+use Rattle.psac_slots.proofs.Carrying.{ringed_returned}
+use Rattle.psac_readers.proofs.Carrying.{renewed, ring_here}
 use Rattle.psac_readers.proofs.Links.{each_stage, restaged_fine, each_map, each_filter}
 use Rattle.psac_readers.proofs.Taking.{stands}
 use Rattle.psac_readers.proofs.Unlinking.{one_if, times_append, snoc, led_last}
@@ -52,19 +54,11 @@ room_after l v has a = let h : Handle = record { slot = l; generation = 1 } in (
 
 pub carries_swept : (links mods head room words l : ℕ) (v : ReadersView) → Carries links mods head room words v → length v.claims.list < v.claims.count → Carries links mods head (room + 1) words (swept_one l v)
 carries_swept links mods head room words l v c less =
+    let k = c.links_is in
     let r = c.room_is in
-    let k = c.links_is in record {
-      live = c.live;
-      links_is = c.links_is;
-      mods_is = c.mods_is;
-      head_is = c.head_is;
-      room_is = omega (arith, length-append v.claims.list (record { slot = l; generation = 1 } ∷ []), r);
-      room_fits = omega (arith, r, k, less);
-      head_fits = c.head_fits;
-      words_is = c.words_is;
-      small = c.small;
-      fine = each_filter (Fine links) (other_link l) v.links c.fine;
-    }
+    renewed links mods head room words v c head (room + 1) (swept_one l v)
+    (ringed_returned links head room v.claims (ring_here links mods head room words v c) (record { slot = l; generation = 1 }) (omega (arith, r, k, less)))
+    refl (each_filter (Fine links) (other_link l) v.links c.fine)
 
 -- the place behind a part of a chain is a word of the table
 pub led_low : (links mods head room words : ℕ) (v : ReadersView) → Carries links mods head room words v → (m l : ℕ) (a b : List ℕ) → m < v.mods → IsSet v m (a ++ l ∷ b) → led_from v.claims.count v.mods (head_at v.claims.count m) a < words

@@ -2,27 +2,30 @@
 use Rattle.psac_values.proofs.Terms.{◌≡◌, ◌≢◌, ◌⊎◌, ℕ, suc, ◌+◌, ◌-◌, ◌*◌, ◌/◌, ◌%◌, ◌<◌, ◌≤◌, List, [], ◌∷◌, ◌++◌, map, length, set, take, Bool, true, false, refl, sym, ap, ◌∙◌, subst, inl, inr, ⊎_elim, arith, Option, Some, None, length-append, cond, filter, not, ◌==◌, length-map, map-append, cases_lt, eq-eqb, ne_eqb, cases_Bool, sum_by_push, bit, member_times, claimed_entry, some, get_elem?, Handle, stem, Member, slot_times, later, removed, stays, goes, lends, above, comes_back, member_left, member_right, member_cases, member_filter, filter_member, member_map, map_member, rest_is, OwnedView, KnownView, StateView, ValueView, handle_of, value_at, out_word, ways, Meeting, Tells, looked, put, wrote_word, mark, marked, drew, new_owned, new_state, left_of, right_of, joined, learned, rewound, gave, other_owned, other_state, Knows, all_words, rewritten, took, United, IsOut, Carries, same_slot, filtered, found}
 use Rattle.psac_slots.specs.Claiming as claiming
 use Rattle.psac_slots.proofs.Carrying as ring
+use Rattle.psac_slots.proofs.Carrying.{Ringed}
 use Rattle.psac_values.proofs.Keeps.{back_again, mark_of}
 
 module _ (fixed count head room words : ℕ) (v : ValueView) (p : Carries fixed count head room words v) where
-  -- the same ring and the same sizes
-  pub renewed : (w : ValueView) → w.claims.live ≡ v.claims.live → w.fixed ≡ v.fixed → w.claims.count ≡ v.claims.count → w.claims.head ≡ v.claims.head → w.claims.list ≡ v.claims.list → w.met ≡ None
-      → map handle_of w.states ≡ w.claims.held
+  ring_here : Ringed count head room v.claims
+  ring_here = (p.live, p.count_is, p.head_is, p.room_is, p.room_fits, p.head_fits)
+
+  -- a ring, and the same sizes
+  pub renewed : (at left : ℕ) (w : ValueView) → Ringed count at left w.claims → w.fixed ≡ v.fixed → w.met ≡ None → map handle_of w.states ≡ w.claims.held
       → ((t : StateView) → Member t w.states → (t.word ≡ out_word t.of) × (t.of.slot < count))
       → ((z : OwnedView) → Member z w.mine → (length z.words ≡ 3) × (z.of.slot < fixed + count))
       → ((e : KnownView) → Member e w.known → (length e.words ≡ 3) × (e.of.slot < fixed + count))
-      → Carries fixed count head room words w
-  renewed w a b c d e f held out mine known = record {
-    live = a ∙ p.live;
-    fixed_is = b ∙ p.fixed_is;
-    count_is = c ∙ p.count_is;
-    head_is = d ∙ p.head_is;
-    room_is = ap length e ∙ p.room_is;
-    room_fits = p.room_fits;
-    head_fits = p.head_fits;
+      → Carries fixed count at left words w
+  renewed at left w r f m held out mine known = record {
+    live = r.0;
+    fixed_is = f ∙ p.fixed_is;
+    count_is = r.1;
+    head_is = r.2;
+    room_is = r.3;
+    room_fits = r.4;
+    head_fits = r.5;
     words_is = p.words_is;
     small = p.small;
-    settled = f;
+    settled = m;
     out = out;
     held_is = held;
     mine = mine;
@@ -34,13 +37,13 @@ module _ (fixed count head room words : ℕ) (v : ValueView) (p : Carries fixed 
   carried size w e f = subst (λ (x : ℕ × ValueView). Carries fixed count head room x.0 x.1) (λ j. (sym e j, sym f j)) p
 
   pub carries_looked : Carries fixed count head room words (looked v)
-  carries_looked = renewed (looked v) refl refl refl refl refl p.settled p.held_is p.out p.mine p.known
+  carries_looked = renewed head room (looked v) ring_here refl p.settled p.held_is p.out p.mine p.known
 
   pub carries_learned : (n : ℕ) → Carries fixed count head room words (learned n v)
-  carries_learned n = renewed (learned n v) refl refl refl refl refl p.settled p.held_is p.out p.mine p.known
+  carries_learned n = renewed head room (learned n v) ring_here refl p.settled p.held_is p.out p.mine p.known
 
   pub carries_word : (s j x : ℕ) → Carries fixed count head room words (wrote_word s j x v)
-  carries_word s j x = renewed (wrote_word s j x v) refl refl refl refl refl p.settled p.held_is p.out
+  carries_word s j x = renewed head room (wrote_word s j x v) ring_here refl p.settled p.held_is p.out
       (λ z m. let q = member_map (put s j x) z v.mine m in subst (λ (y : OwnedView). (length y.words ≡ 3) × (y.of.slot < fixed + count)) q.2 (put_long q.0 (p.mine q.0 q.1)))
       p.known
     where
@@ -56,14 +59,14 @@ module _ (fixed count head room words : ℕ) (v : ValueView) (p : Carries fixed 
 
   -- a claim past the room changes the drawn indexes alone
   pub carries_past : (n : ℕ) → claiming.entry v.claims.list n ≡ [] → Carries fixed count head room words (drew v n)
-  carries_past n e = renewed (drew v n) refl refl refl refl refl p.settled (held_drawn n)
+  carries_past n e = renewed head room (drew v n) ring_here refl p.settled (held_drawn n)
       (λ t m. ⊎_elim (λ q. p.out t q) (λ q. absurd (subst (Member t) (ap (map new_state) e) q)) (member_cases t v.states (map new_state (claiming.entry v.claims.list n)) m))
       (λ z m. ⊎_elim (λ q. p.mine z q) (λ q. absurd (subst (Member z) (ap (map (new_owned v.fixed)) e) q)) (member_cases z v.mine (map (new_owned v.fixed) (claiming.entry v.claims.list n)) m))
       p.known
 
   -- a claim of a slot, which is out from then on
   pub carries_took : (n : ℕ) (h : Handle) → claiming.entry v.claims.list n ≡ h ∷ [] → h.slot < v.claims.count → slot_times h.slot (map handle_of v.states ++ h ∷ []) ≤ 1 → Carries fixed count head room words (took v n h)
-  carries_took n h e low once = renewed (took v n h) refl refl refl refl refl p.settled (mark_of h.slot (out_word h) (drew v n).states ∙ held_drawn n)
+  carries_took n h e low once = renewed head room (took v n h) ring_here refl p.settled (mark_of h.slot (out_word h) (drew v n).states ∙ held_drawn n)
       (λ t m.
       let q = member_map (mark h.slot (out_word h)) t (drew v n).states m in
       subst (λ (t : StateView). (t.word ≡ out_word t.of) × (t.of.slot < count)) q.2 (⊎_elim
@@ -89,58 +92,29 @@ module _ (fixed count head room words : ℕ) (v : ValueView) (p : Carries fixed 
           omega (arith, a, b, one, ap (λ k. slot_times k (map handle_of v.states)) is, once)
 
   pub carries_left : (shared to_right : ℕ → Bool) → Carries fixed count head room words (left_of shared to_right v)
-  carries_left shared to_right = renewed (left_of shared to_right v) refl refl refl refl refl refl p.held_is p.out (λ z m. p.mine z (member_filter (stays ways shared to_right) z v.mine m).0)
+  carries_left shared to_right = renewed head room (left_of shared to_right v) ring_here refl refl p.held_is p.out (λ z m. p.mine z (member_filter (stays ways shared to_right) z v.mine m).0)
       (λ e m. ⊎_elim (λ q. p.known e q) (λ q. let x = member_map (ways.lend v.claims.branch) e (filter (lends ways shared to_right) v.mine) q in subst (λ (k : KnownView). (length k.words ≡ 3) × (k.of.slot < fixed + count)) x.2 (p.mine x.0 (member_filter (lends ways shared to_right) x.0 v.mine x.1).0))
       (member_cases e v.known (map (ways.lend v.claims.branch) (filter (lends ways shared to_right) v.mine)) m))
 
   pub carries_right : (shared to_right : ℕ → Bool) → Carries fixed count head room words (right_of shared to_right v)
-  carries_right shared to_right = let l = carries_left shared to_right in renewed (right_of shared to_right v) (sym p.live) refl refl refl refl refl refl (λ t m. absurd m) (λ z m. p.mine z (member_filter (goes ways shared to_right) z v.mine m).0) l.known
+  carries_right shared to_right = let l = carries_left shared to_right in renewed head room (right_of shared to_right v) (refl, p.count_is, p.head_is, p.room_is, p.room_fits, p.head_fits) refl refl refl (λ t m. absurd m) (λ z m. p.mine z (member_filter (goes ways shared to_right) z v.mine m).0) l.known
 
   pub carries_joined : (w : ValueView) → map handle_of w.states ≡ w.claims.held → ((t : StateView) → Member t w.states → t.word ≡ out_word t.of) → ((t : StateView) → Member t (joined v w).states → t.of.slot < v.claims.count)
       → ((z : OwnedView) → Member z (joined v w).mine → (length z.words ≡ 3) × (z.of.slot < v.fixed + v.claims.count)) → Carries fixed count head room words (joined v w)
-  carries_joined w held out low mine = renewed (joined v w) refl refl refl refl refl refl
+  carries_joined w held out low mine = renewed head room (joined v w) ring_here refl refl
       (map-append handle_of v.states w.states ∙ (λ i. p.held_is i ++ held i))
       (λ t m. (⊎_elim (λ q. (p.out t q).0) (λ q. out t q) (member_cases t v.states w.states m), let l = low t m in let b = p.count_is in omega (arith, l, b)))
       (λ z m. let q = mine z m in let l = q.1 in let a = p.fixed_is in let b = p.count_is in (q.0, omega (arith, l, a, b)))
       (λ e m. p.known e (member_filter (above ways (stem v.claims.branch)) e v.known m).0)
 
   pub carries_gave : (x : Handle) → room < count → Carries fixed count head (room + 1) words (gave x v)
-  carries_gave x less = record {
-    live = p.live;
-    fixed_is = p.fixed_is;
-    count_is = p.count_is;
-    head_is = p.head_is;
-    room_is = (let a = length-append v.claims.list (later x ∷ []) in let b = p.room_is in omega (arith, a, b));
-    room_fits = omega (arith, less);
-    head_fits = p.head_fits;
-    words_is = p.words_is;
-    small = p.small;
-    settled = p.settled;
-    out = λ t m. p.out t (member_filter (other_state x.slot) t v.states m).0;
-    held_is = filtered handle_of x.slot v.states ∙ ap (removed x.slot) p.held_is;
-    mine = λ z m. p.mine z (member_filter (other_owned (v.fixed + x.slot)) z v.mine m).0;
-    known = p.known;
-  }
+  carries_gave x less = renewed head (room + 1) (gave x v) (ring.ringed_returned count head room v.claims ring_here (later x) less) refl p.settled
+      (filtered handle_of x.slot v.states ∙ ap (removed x.slot) p.held_is) (λ t m. p.out t (member_filter (other_state x.slot) t v.states m).0)
+      (λ z m. p.mine z (member_filter (other_owned (v.fixed + x.slot)) z v.mine m).0) p.known
 
   pub carries_rewound : (gone : ℕ) → length (take (claiming.counted v.claims.counter) v.claims.list) ≡ gone → Carries fixed count (claiming.turned count (head + gone)) (room - gone) words (rewound v)
-  carries_rewound gone e =
-      let rest = rest_is v.claims count head room gone p.room_is p.room_fits p.head_fits e in
-      record {
-        live = p.live;
-        fixed_is = p.fixed_is;
-        count_is = p.count_is;
-        head_is = λ i. claiming.turned (p.count_is i) (p.head_is i + e i);
-        room_is = rest.0;
-        room_fits = rest.1;
-        head_fits = rest.3;
-        words_is = p.words_is;
-        small = p.small;
-        settled = p.settled;
-        out = p.out;
-        held_is = p.held_is;
-        mine = p.mine;
-        known = p.known;
-      }
+  carries_rewound gone e = renewed (claiming.turned count (head + gone)) (room - gone) (rewound v) (ring.ringed_rewound count head room v.claims ring_here gone e) refl p.settled
+      p.held_is p.out p.mine p.known
 
 -- what was drawn and loaded is the list's entry
 pub found_here : (fixed count head room words : ℕ) (v : ValueView) → Carries fixed count head room words v → (n word i : ℕ) → n < length v.claims.list → i ≡ suc ((head + n) % count) → Tells (drew v n) i word
