@@ -1,7 +1,6 @@
 -- What a pass of marks carries after each step.
-use Rattle.psac_marks.proofs.Terms.{◌≡◌, ◌≢◌, ℕ, suc, ◌+◌, ◌/◌, ◌%◌, ◌<◌, ◌≤◌, List, [], ◌∷◌, ◌++◌, map, length, refl, sym, ap, ◌∙◌, subst, inl, inr, ⊎_elim, arith, Option, Some, None, cond, HasOwn, Owns, none_some, same_some as some_same, ◌==◌, IfSome, map-append, sum_by_push, eq-eqb, ne_eqb, Handle, Member, slot_times, IsDistinct, bit, member_cases, map_member, member_times, claimed_entry, OwnView, StateView, MarksView, Place, own_place, shared_place, places, Has, handle_of, out_word, free_word, Tells, new_own, new_state, drew, Lacks, hang, hung, put, stated, cleared, asked, detached, Carries, Keeps, slot_of, climbed, took}
+use Rattle.psac_marks.proofs.Terms.{◌≡◌, ◌≢◌, ℕ, suc, ◌+◌, ◌/◌, ◌%◌, ◌<◌, ◌≤◌, List, [], ◌∷◌, ◌++◌, map, length, refl, sym, ap, ◌∙◌, subst, inl, inr, ⊎_elim, arith, Option, Some, None, cond, HasOwn, Owns, none_some, same_some as some_same, ◌==◌, IfSome, map-append, sum_by_push, eq-eqb, ne_eqb, Handle, Member, slot_times, IsDistinct, bit, member_cases, map_member, member_times, claimed_entry, OwnView, StateView, MarksView, Place, own_place, shared_place, places, Has, handle_of, out_word, free_word, Tells, new_own, new_state, drew, Lacks, hang, hung, put, stated, cleared, asked, detached, Carries, Keeps, slot_of, climbed, took, Ringed}
 use Rattle.psac_slots.specs.Claiming as claiming
-use Rattle.psac_slots.proofs.Carrying.{Ringed}
 use Rattle.psac_marks.proofs.Parts.{each_place, place_own, place_shared}
 use Rattle.psac_marks.proofs.Stays.{back_again}
 

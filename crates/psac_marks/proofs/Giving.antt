@@ -147,7 +147,6 @@ module _ (nodes : ℕ) (words : List ℕ) (views : List MarksView) (h : Marked n
       let mine = all_held nodes words views h id v at live empty x in
       let low = held_low nodes words views h x (omega (arith, held, mine)) in
       let short : i ≤ nodes = omega (arith, mod-lt (h.head + length h.list) {m = nodes} (omega (arith, low))) in
-      let once = held_once nodes words views h id v at x in
       let at_tree = at_map tree_of views id v at in
       let at_marks = at_map marks_of views id v at in
       let alone_in = nobody_else nodes words views h id v at live empty in
@@ -167,7 +166,7 @@ module _ (nodes : ℕ) (words : List ℕ) (views : List MarksView) (h : Marked n
       (new_part tree_of (Tree nodes h.parent ws) views id w
       (tree_gives x (places v) (places w) id cases stays nodes h.parent ws (map tree_of views) (tree_else nodes h.parent words (map tree_of views) i n (λ y q. omega (arith, q, short)) h.tree) v.own v.dropped v.claims.held at_tree
       (ap h.parent (sym go.slot) ∙ (h.tree.parents id (tree_of v) (own_place v.claims.branch go.own) at_tree (place_own v go.own go.has) ∙ go.root))
-      (omega (arith, mine, once)) held
+      (omega (arith, mine, held_once nodes words views h id v at x)) held
       (each_place v (λ e. e.parent ≡ Some x → 0 < times e.node.slot v.dropped) go.childless (λ s ms. absurd (unshared s ms)))
       (λ j k e ne d me. let u = at_mapped tree_of views j k d in alone_in j u.0 e ne u.1 (subst (λ (z : Grown). Member e z.places) (sym u.2) me))))
       (new_part marks_of (Climbing nodes ws) views id w

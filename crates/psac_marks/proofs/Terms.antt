@@ -2,7 +2,7 @@
 pub use Rattle.psac_slots.proofs.Terms.{◌≡◌, ◌≢◌, ℕ, suc, ◌+◌, ◌*◌, ◌<◌, ◌≤◌, List, [], ◌∷◌, ◌++◌, map, length, set, refl, sym, ap, ◌∙◌, subst, ⊎_elim, arith, ◌/◌, ◌%◌, Bool, true, false, Option, Some, None, length-append, inl, length-set, mod-lt, ◌⊎◌, true≢false, inr, zero, ◌-◌, append_assoc, append-nil, ltb, ◌^◌, drop, take, is_some, at_last, at_longer, at_map, at_set, at_snoc, set_again, set_else, set_here, Allows, State, Step, keeps, step, and_parts, cases_Bool, cases_eq, cases_lt, eq-eqb, eqb-true, le-ltb, lt-ltb, ltb-true, ne_eqb, length-map, map-append, map-set, set-get_or, sum_by-append, sum_by-cons, sum_by_push, IfSome, IsTrue, cond, filter, not, slice_index, sum_by, ◌&&◌, ◌==◌, get_elem?, none, some, some-injective, some-ne-none, is_prefix, stem, Accounted, IsSole, counted, entry, place, times, turned, Beside, Divided, Own, Rights, above, comes_back, goes, lends, stays, by_slot, only, IsDistinct, IsHandle, Member, fresh, later, once_below, removed, slot_times, word_of, Pass}
 pub use Rattle.psac_ops.specs.declared.plain.Handle.{Handle}
 pub use Rattle.psac_slots.proofs.Acts.{one_given, slice_at, sole_parts}
-pub use Rattle.psac_slots.proofs.Carrying.{accounted_returned}
+pub use Rattle.psac_slots.proofs.Carrying.{Ringed, accounted_returned, ringed_returned, ringed_rewound}
 pub use Rattle.psac_slots.proofs.Dividing.{Strangers, alone_cases, changes, divides, is_above, is_off, meets, off, on_left, on_right, prefix_cut, prefix_short_length, prefix_through, prefix_whole, shared_same, told_cases, unites}
 pub use Rattle.psac_slots.proofs.Given.{filter_all, filter_none, filter_twice, filtered, from_here, from_next, only_none, only_one, removed_none, same_slot}
 pub use Rattle.psac_slots.proofs.Pairs.{entry_at, filter_member, later_member, map_member, member_cases, member_filter, member_left, member_map, member_right, one_after}

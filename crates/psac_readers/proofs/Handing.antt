@@ -1,8 +1,7 @@
 -- The views on the way of a link that is given back.
-use Rattle.psac_readers.proofs.Terms.{◌≡◌, ℕ, ◌+◌, ◌<◌, List, [], ◌∷◌, ◌++◌, map, length, Bool, true, false, cond, refl, ap, ◌∙◌, ⊎_elim, arith, length-append, sum_map, sum_by, filter, not, ◌==◌, sum_by-cons, Handle, has_room, accounted_returned, Stage, LinkView, ReadersView, head_at, times, in_set, is_live, named, alive, Each, reviving, revive, revived, leaving, take_off, lose, unlinked, other_link, freed, swept_one, is_settled, Fine, led_from, IsSet, Carries}
+use Rattle.psac_readers.proofs.Terms.{◌≡◌, ℕ, ◌+◌, ◌<◌, List, [], ◌∷◌, ◌++◌, map, length, Bool, true, false, cond, refl, ap, ◌∙◌, ⊎_elim, arith, length-append, sum_map, sum_by, filter, not, ◌==◌, sum_by-cons, Handle, has_room, accounted_returned, Stage, LinkView, ReadersView, head_at, times, in_set, is_live, named, alive, Each, reviving, revive, revived, leaving, take_off, lose, unlinked, other_link, freed, swept_one, is_settled, Fine, led_from, IsSet, Carries, ringed_returned}
 use Rattle.psac_slots.specs.Handles as handles
 use Rattle.psac_slots.specs.Claiming as claiming
-use Rattle.psac_slots.proofs.Carrying.{ringed_returned}
 use Rattle.psac_readers.proofs.Carrying.{renewed, ring_here}
 use Rattle.psac_readers.proofs.Links.{each_stage, restaged_fine, each_map, each_filter}
 use Rattle.psac_readers.proofs.Taking.{stands}

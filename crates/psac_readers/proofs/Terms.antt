@@ -2,7 +2,7 @@
 pub use Rattle.psac_slots.proofs.Terms.{◌≡◌, ◌≢◌, ◌⊎◌, ℕ, suc, ◌+◌, ◌-◌, ◌<◌, ◌≤◌, List, [], ◌∷◌, ◌++◌, map, length, Bool, true, false, true≢false, cond, refl, sym, ap, ◌∙◌, subst, inl, ⊎_elim, arith, Some, append_assoc, set, take, drop, inr, Option, None, length-set, ltb, ◌%◌, length-append, zero, ◌*◌, ◌^◌, mod-lt, div-add-mod', at_last, at_longer, at_map, set_again, set_else, set_here, Allows, State, Step, keeps, step, cases_Bool, cases_eq, cases_lt, eq-eqb, eqb-true, le-ltb, lt-ltb, ltb-true, ne_eqb, length-map, map-append, map-set, set-get_or, sum_by-append, sum_by-cons, sum_by_push, IfErr, IfOk, IfSome, filter, not, slice_index, sum_by, ◌&&◌, ◌==◌, get_elem?, none, some, some-injective, some-ne-none, stem, Accounted, IsSole, counted, entry, place, turned, Divided, Own, Rights, above, comes_back, goes, no_rights, stays, united, Member, fresh, removed, slot_times, word_of}
 pub use Rattle.psac_ops.specs.declared.plain.Handle.{Handle}
 pub use Rattle.psac_slots.proofs.Acts.{slice_at, sole_parts, tells}
-pub use Rattle.psac_slots.proofs.Carrying.{accounted_returned, has_room}
+pub use Rattle.psac_slots.proofs.Carrying.{Ringed, accounted_returned, has_room, ringed_returned, ringed_rewound}
 pub use Rattle.psac_slots.proofs.Dividing.{Strangers, alone_cases, divides, is_off, none_there, on_left, on_right, shared_same, unites}
 pub use Rattle.psac_slots.proofs.Pairs.{filter_member, map_member, member_left, member_right, one_after}
 pub use Rattle.psac_slots.proofs.Removed.{at_most_once, claimed_entry, length-fresh, member_times, removed_else, removed_gone}

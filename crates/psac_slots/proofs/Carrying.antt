@@ -31,9 +31,7 @@ module _ (v : ClaimView) (a : Accounted v) (x : Handle) (has : 0 < slot_times x.
             (λ (e : s ≡ x.slot).
             let t : bit (x.slot == s) ≡ 1 = ap bit (eq-eqb x.slot s (sym e)) in
             let g : slot_times s (removed x.slot v.held) ≡ 0 = ap (λ k. slot_times k (removed x.slot v.held)) e ∙ removed_gone x.slot v.held in
-            let h = ap (λ k. slot_times k v.held) e in
-            let m = at_most_once s v.count in
-            omega (arith, p, o, t, g, h, m, has))
+            omega (arith, p, o, t, g, ap (λ k. slot_times k v.held) e, at_most_once s v.count, has))
             (λ (n : s ≢ x.slot). let t : bit (x.slot == s) ≡ 0 = ap bit (ne_eqb x.slot s (λ q. n (sym q))) in let g = removed_else s x.slot v.held n in omega (arith, p, o, t, g))
             (cases_eq s x.slot);
       }

@@ -78,9 +78,8 @@ module _ (count c head : ℕ) (list : List Handle) (words : List ℕ) (views : L
       let w : ClaimView = drew v c in
       let mine = h.each id v at in
       let same : v.list ≡ list = mine.list_is live in
-      let top = bounded count c head list words views h in
       let room = h.room in
-      let small : (c + 1) % 2 ^ 64 ≡ suc c = omega (arith, top, room) in
+      let small : (c + 1) % 2 ^ 64 ≡ suc c = omega (arith, bounded count c head list words views h, room) in
       let one = weight_live v live in
       let cut = cut_one c list in
       record {
@@ -96,15 +95,13 @@ module _ (count c head : ℕ) (list : List Handle) (words : List ℕ) (views : L
         drawn = λ k. let s = sum_set (λ (u : ClaimView). times k u.drawn) views id v w at in let p = sum_by_push (λ (x : ℕ). cond (x == k) 1 0) v.drawn c in let o = once_below_more k c in omega (arith, s, p, o, h.drawn k);
         slots = λ x. let s = sum_set (λ (u : ClaimView). slot_times x u.held) views id v w at in
             let f : Handle → ℕ = λ (y : Handle). cond (y.slot == x) 1 0 in
-            let p = sum_by-append f v.held (entry v.list c) in
             let q : slot_times x (entry v.list c) ≡ slot_times x (entry list c) = ap (λ (l : List Handle). slot_times x (entry l c)) same in
             let d : slot_times x (drop c list) ≡ slot_times x (entry list c) + slot_times x (drop (suc c) list) = ap (slot_times x) cut ∙ sum_by-append f (entry list c) (drop (suc c) list) in
-            omega (arith, s, p, q, d, h.slots x);
+            omega (arith, s, sum_by-append f v.held (entry v.list c), q, d, h.slots x);
         all = let s = sum_set (λ (u : ClaimView). length u.held) views id v w at in
-            let p = length-append v.held (entry v.list c) in
             let q : length (entry v.list c) ≡ length (entry list c) = ap (λ (l : List Handle). length (entry l c)) same in
             let d : length (drop c list) ≡ length (entry list c) + length (drop (suc c) list) = ap length cut ∙ length-append (entry list c) (drop (suc c) list) in
-            let a = h.all in omega (arith, s, p, q, d, a);
+            let a = h.all in omega (arith, s, length-append v.held (entry v.list c), q, d, a);
         each = all_set (λ _ u. Fits count (suc c) head list u) views id w
             (record { over = (let b = cond_small (ltb c (length v.list)) in let t : weight w ≡ weight v = refl in omega (arith, b, one, none, t)); count_is = mine.count_is; head_is = mine.head_is; list_is = mine.list_is; short = mine.short; gone = λ z. absurd (true≢false (sym live ∙ z)); sole = sole_on v.counter c v mine.sole })
             (λ j u n e. let f = h.each j u e in record { over = f.over; count_is = f.count_is; head_is = f.head_is; list_is = f.list_is; short = f.short; gone = f.gone; sole = sole_goes u.counter c (suc c) u (λ lu empty. true≢false (sym live ∙ none_beside views j id u v h.weights e at (λ p. n (sym p)) lu empty)) f.sole });

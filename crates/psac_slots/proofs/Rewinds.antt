@@ -60,9 +60,8 @@ module _ (count c head : ℕ) (list : List Handle) (words : List ℕ) (views : L
   -- what all passes have in some way is what the sole one has
   pub alone_sum : (f : ClaimView → ℕ) → f spent ≡ 0 → ((u : ClaimView) → u.drawn ≡ [] → u.held ≡ [] → f u ≡ 0) → sum_by f views ≡ f v
   alone_sum f none gone =
-      let a = sum_set f views id v spent at in
       let b = sum_none f (set views id spent) (all_set (λ _ (u : ClaimView). f u ≡ 0) views id spent none (λ j u n e. let g = (h.each j u e).gone (alone j u n e) in gone u g.0 g.1)) in
-      omega (arith, a, b, none)
+      omega (arith, sum_set f views id v spent at, b, none)
 
   pub drawn_all : DrewBelow c v
   drawn_all k = let a = alone_sum (λ (u : ClaimView). times k u.drawn) refl (λ u d _. ap (times k) d) in let b = h.drawn k in omega (arith, a, b)
@@ -115,8 +114,7 @@ module _ (count c head : ℕ) (list : List Handle) (words : List ℕ) (views : L
         head_low = turned_low count (head + length (take c list)) (omega (arith, top, taken, fits)) (cases_lt (head + length (take c list)) count);
         counter_is = set_here words 0 0 (let a = h.long in omega (arith, a));
         stored = λ k x e.
-            let less = at_less (drop c list) k x e in
-            let t = whole_taken c list (omega (arith, less)) in
+            let t = whole_taken c list (omega (arith, at_less (drop c list) k x e)) in
             set_else words 0 (place count (turned count (head + length (take c list)) + k)) 0 (λ q. absurd (omega (arith, q)))
             ∙ (ap (λ (i : ℕ). get_elem? words (suc i)) (turned_place count (head + length (take c list)) k (cases_lt (head + length (take c list)) count))
             ∙ (ap (λ (i : ℕ). get_elem? words (place count i)) (let z : (head + length (take c list)) + k ≡ head + (c + k) = omega (arith, t) in z) ∙ h.stored (c + k) x (sym (at_drop list c k) ∙ e)));
@@ -184,8 +182,7 @@ module _ (count c head : ℕ) (list : List Handle) (words : List ℕ) (views : L
             let r' : slot_times z v.held ≡ 1 = ap (λ k. slot_times k v.held) same ∙ omega (arith, here, once, whole, one) in
             let o = h.slots z in omega (arith, a, b, e, i, t, r, r', o))
             (λ (other : z ≢ x.slot). let t : bit (x.slot == z) ≡ 0 = ap bit (ne_eqb x.slot z (λ q. other (sym q))) in
-            let r = removed_else z x.slot v.held other in
-            let o = h.slots z in omega (arith, a, b, e, i, t, r, o))
+            let o = h.slots z in omega (arith, a, b, e, i, t, removed_else z x.slot v.held other, o))
             (cases_eq z x.slot);
         all = let a = sum_set (λ (u : ClaimView). length u.held) views id v w at in let e = ap length d' in
             omega (arith, a, e, dl, longer, every, len, here, once, whole, one);

@@ -92,5 +92,4 @@ module _ (count c head : ℕ) (list : List Handle) (words : List ℕ) (views : L
   undrawn x m =
       let a = member_times x (drop c list) m in
       let s = h.slots x.slot in
-      let o = at_most_once x.slot count in
-      (omega (arith, a, s, o), slot_below x.slot count (omega (arith, a, s)))
+      (omega (arith, a, s, at_most_once x.slot count), slot_below x.slot count (omega (arith, a, s)))

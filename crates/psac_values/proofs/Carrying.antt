@@ -1,8 +1,7 @@
 -- What a pass of values carries after each step, and what it reads.
-use Rattle.psac_values.proofs.Terms.{◌≡◌, ◌≢◌, ◌⊎◌, ℕ, suc, ◌+◌, ◌-◌, ◌*◌, ◌/◌, ◌%◌, ◌<◌, ◌≤◌, List, [], ◌∷◌, ◌++◌, map, length, set, take, Bool, true, false, refl, sym, ap, ◌∙◌, subst, inl, inr, ⊎_elim, arith, Option, Some, None, length-append, cond, filter, not, ◌==◌, length-map, map-append, cases_lt, eq-eqb, ne_eqb, cases_Bool, sum_by_push, bit, member_times, claimed_entry, some, get_elem?, Handle, stem, Member, slot_times, later, removed, stays, goes, lends, above, comes_back, member_left, member_right, member_cases, member_filter, filter_member, member_map, map_member, rest_is, OwnedView, KnownView, StateView, ValueView, handle_of, value_at, out_word, ways, Meeting, Tells, looked, put, wrote_word, mark, marked, drew, new_owned, new_state, left_of, right_of, joined, learned, rewound, gave, other_owned, other_state, Knows, all_words, rewritten, took, United, IsOut, Carries, same_slot, filtered, found}
+use Rattle.psac_values.proofs.Terms.{◌≡◌, ◌≢◌, ◌⊎◌, ℕ, suc, ◌+◌, ◌-◌, ◌*◌, ◌/◌, ◌%◌, ◌<◌, ◌≤◌, List, [], ◌∷◌, ◌++◌, map, length, set, take, Bool, true, false, refl, sym, ap, ◌∙◌, subst, inl, inr, ⊎_elim, arith, Option, Some, None, length-append, cond, filter, not, ◌==◌, length-map, map-append, cases_lt, eq-eqb, ne_eqb, cases_Bool, sum_by_push, bit, member_times, claimed_entry, some, get_elem?, Handle, stem, Member, slot_times, later, removed, stays, goes, lends, above, comes_back, member_left, member_right, member_cases, member_filter, filter_member, member_map, map_member, rest_is, OwnedView, KnownView, StateView, ValueView, handle_of, value_at, out_word, ways, Meeting, Tells, looked, put, wrote_word, mark, marked, drew, new_owned, new_state, left_of, right_of, joined, learned, rewound, gave, other_owned, other_state, Knows, all_words, rewritten, took, United, IsOut, Carries, same_slot, filtered, found, Ringed, ringed_rewound, ringed_returned}
 use Rattle.psac_slots.specs.Claiming as claiming
 use Rattle.psac_slots.proofs.Carrying as ring
-use Rattle.psac_slots.proofs.Carrying.{Ringed}
 use Rattle.psac_values.proofs.Keeps.{back_again, mark_of}
 
 module _ (fixed count head room words : ℕ) (v : ValueView) (p : Carries fixed count head room words v) where
@@ -108,12 +107,12 @@ module _ (fixed count head room words : ℕ) (v : ValueView) (p : Carries fixed 
       (λ e m. p.known e (member_filter (above ways (stem v.claims.branch)) e v.known m).0)
 
   pub carries_gave : (x : Handle) → room < count → Carries fixed count head (room + 1) words (gave x v)
-  carries_gave x less = renewed head (room + 1) (gave x v) (ring.ringed_returned count head room v.claims ring_here (later x) less) refl p.settled
+  carries_gave x less = renewed head (room + 1) (gave x v) (ringed_returned count head room v.claims ring_here (later x) less) refl p.settled
       (filtered handle_of x.slot v.states ∙ ap (removed x.slot) p.held_is) (λ t m. p.out t (member_filter (other_state x.slot) t v.states m).0)
       (λ z m. p.mine z (member_filter (other_owned (v.fixed + x.slot)) z v.mine m).0) p.known
 
   pub carries_rewound : (gone : ℕ) → length (take (claiming.counted v.claims.counter) v.claims.list) ≡ gone → Carries fixed count (claiming.turned count (head + gone)) (room - gone) words (rewound v)
-  carries_rewound gone e = renewed (claiming.turned count (head + gone)) (room - gone) (rewound v) (ring.ringed_rewound count head room v.claims ring_here gone e) refl p.settled
+  carries_rewound gone e = renewed (claiming.turned count (head + gone)) (room - gone) (rewound v) (ringed_rewound count head room v.claims ring_here gone e) refl p.settled
       p.held_is p.out p.mine p.known
 
 -- what was drawn and loaded is the list's entry
@@ -228,8 +227,7 @@ told_out fixed count head room words v p m c i n sole t above low is =
 pub out_low : (fixed count head room words : ℕ) (v : ValueView) → Carries fixed count head room words v → (m : Handle) → IsOut m v → m.slot < fixed + count
 out_low fixed count head room words v p m o =
     let st = state_of fixed count head room words v p o.0 o.1 in
-    let a = ap (λ (h : Handle). h.slot) st.2 in
-    omega (arith, (p.out st.0 st.1).1, a, ap (λ (h : Handle). h.slot) o.2, p.fixed_is)
+    omega (arith, (p.out st.0 st.1).1, ap (λ (h : Handle). h.slot) st.2, ap (λ (h : Handle). h.slot) o.2, p.fixed_is)
 
 marked_one : (s x : ℕ) (t : StateView) (ts us : List StateView) → us ≡ ts → (b : Bool) → (t.of.slot == s) ≡ b → cond (not b) (mark s x t ∷ us) us ≡ cond (not b) (t ∷ ts) ts
 marked_one s x t ts us e true is = e

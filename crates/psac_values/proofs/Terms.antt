@@ -1,7 +1,7 @@
 -- What the proofs of this crate speak of: lists, tests and sums, handles and claims, and the words of its specs.
 pub use Rattle.psac_slots.proofs.Terms.{◌≡◌, ◌≢◌, ℕ, suc, ◌+◌, ◌/◌, ◌%◌, ◌<◌, ◌≤◌, ◌++◌, map, Bool, true, false, ltb, refl, sym, ap, ◌∙◌, subst, ⊎_elim, arith, Some, append_assoc, append-nil, ◌-◌, ◌*◌, List, [], ◌∷◌, length, set, take, drop, true≢false, inl, length-set, mod-lt, ◌⊎◌, inr, zero, Option, length-append, ◌^◌, None, get_or, at_longer, at_map, at_set, set_again, set_else, set_here, Allows, Joins, Splits, State, Step, keeps, step, cases_Bool, cases_eq, cases_lt, eq-eqb, eqb-true, le-ltb, lt-ltb, ne_eqb, length-map, map-append, map-set, set-get_or, sum_by-append, sum_by_push, IfSome, cond, filter, not, slice_index, sum_by, ◌&&◌, ◌==◌, ◌||◌, get_elem?, none, some, some-injective, some-ne-none, is_prefix, stem, Accounted, IsSole, counted, entry, place, turned, Divided, Own, Rights, above, comes_back, goes, lends, no_rights, stays, by_slot, only, IsDistinct, IsHandle, Member, fresh, later, once_below, removed, slot_times, word_of}
 pub use Rattle.psac_ops.specs.declared.plain.Handle.{Handle}
-pub use Rattle.psac_slots.proofs.Carrying.{accounted_returned}
+pub use Rattle.psac_slots.proofs.Carrying.{Ringed, accounted_returned, ringed_returned, ringed_rewound}
 pub use Rattle.psac_slots.proofs.Dividing.{Unknown, changes, divides, meets, off, unites}
 pub use Rattle.psac_slots.proofs.Given.{filter_all, filter_none, filter_same, filter_twice, filtered, from_here, from_next, held_from, only_none, only_one, removed_none, same_slot}
 pub use Rattle.psac_slots.proofs.Kept.{promised, unheld}

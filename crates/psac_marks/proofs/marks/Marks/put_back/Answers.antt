@@ -27,11 +27,10 @@ pub store-requires-2 : goal.store-requires-2
 store-requires-2 c =
     let is = ap (λ p. p.knows) c.pass.view_is in
     let p = c.pass.invariant.1 in
-    let v = c.pass.inside.seat.me.0 in
     let x = c.args.node.slot in
     let t = ap (λ p. p.table) c.pass.view_is ∙ (c.requires.table ∙ sym c.self.view_is) in
     let n = p.nodes_is in
-    let own = own_low _ _ _ _ v p c.args.node _ is c.requires.own in
+    let own = own_low _ _ _ _ c.pass.inside.seat.me.0 p c.args.node _ is c.requires.own in
     let s1 = c.store.ensures in
     let v1 = ap (λ m. m.0) (s1.2 x (omega (arith, n))) in
     let n1 = ap (λ (u : MarksView). u.claims.count) v1 in (
