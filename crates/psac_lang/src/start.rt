@@ -27,7 +27,7 @@ pub enum Start {
     Nothing,
 }
 
-/// What an operand begins with that begins with this token.
+/// How an operand begins, by its first token.
 pub fn beginning(token: Token) -> Start
     ensures { begins result ≡ start_of token.kind token }
 {

@@ -47,7 +47,7 @@ pub struct MarksView {
     /// Own nodes that were detached.
     pub dropped: LinkedList<u64>,
     pub states: LinkedList<StateView>,
-    /// How often it asked, it and what was joined into it.
+    /// How many times it has asked for a mark, and the passes that were joined into it.
     pub asks: u64,
     /// The sides of a join, until a step later tells of them.
     pub met: Option<MetView>,

@@ -40,7 +40,7 @@ pub struct ValueView {
     pub mine: LinkedList<OwnedView>,
     pub known: LinkedList<KnownView>,
     pub states: LinkedList<StateView>,
-    /// How often it read, it and what was joined into it.
+    /// How many reads it has made, and the passes that were joined into it.
     pub looks: u64,
     /// The sides of a join, until a step later tells of them.
     pub met: Option<MetView>,
