@@ -15,23 +15,23 @@ use Rattle.psac_readers.specs.Steps.{is_settled}
 pub record Promised (links mods : ℕ) (words : List ℕ) (views : List ReadersView) : Type 0 where
   -- what the rule of claims gives
   pub claims : slots.Promised words (map claims_of views)
-  -- a link that is still to be drawn no pass has
+  -- no pass has a link that is still to be drawn
   pub free_unlinked : (i : ℕ) (v : ReadersView) (l : ℕ) → get_elem? views i ≡ some v → 0 < slot_times l (drop claims.counter claims.list) → sum_by (named l) v.links ≡ 0
   -- the word that leads on from a link
   pub next : ℕ → ℕ
   -- the links of a set, from its head on
   pub chain : ℕ → List ℕ
-  -- from a link that is in or dead the stored next leads on
+  -- a link that is in its set, or dead, is followed by the one that its stored word names
   pub stored_next : (i : ℕ) (v : ReadersView) (k : LinkView) → get_elem? views i ≡ some v → Member k v.links → is_settled k.stage ≡ 1 → get_elem? words (next_at links mods k.link) ≡ some (next k.link)
-  -- and from one that is under way the old head that its pass keeps
+  -- one that is under way is followed by the old head, which its pass keeps
   pub kept_next : (i : ℕ) (v : ReadersView) (k : LinkView) (n : ℕ) → get_elem? views i ≡ some v → Member k v.links → k.stage ≡ UnderWay n → next k.link ≡ n
-  -- from the head one meets the links of the set, and then the end
+  -- from the head on stand the set's links, and then the end
   pub from_head : (m : ℕ) → m < mods → (w : ℕ) × (get_elem? words (head_at links m) ≡ some w) × Follows next w (chain m)
-  -- each once
+  -- each stands once
   pub once : (m l : ℕ) → times l (chain m) ≤ 1
-  -- of a set that one pass alone has they are that pass's links
+  -- the links of a set that one pass alone has are that pass's
   pub private_whole : (i : ℕ) (v : ReadersView) (m l : ℕ) → get_elem? views i ≡ some v → Member m (mods_of v.walk) → times l (chain m) ≡ sum_by (linked m l) v.links
-  -- and of every set those that some pass has in it
+  -- the links of any set are those that the passes have in it
   pub shared_whole : (m l : ℕ) → times l (chain m) ≡ sum_by (λ (v : ReadersView). sum_by (linked m l) v.links) views
   -- a set that one pass alone has is no other's, and shared with none
   pub private_alone : (i j : ℕ) (v u : ReadersView) (m y : ℕ) → get_elem? views i ≡ some v → get_elem? views j ≡ some u → i ≢ j → Member m (mods_of v.walk) → Member y (mods_of u.walk) → m ≢ y
