@@ -35,16 +35,24 @@ pub fn by_length(mark: Mark, token: Token) -> Mark
     if token.over { Mark::Over(6) } else { mark }
 }
 
+// The limit on a NAME or on an INT.
+fn size_limit(kind: Kind) -> u8
+    ensures { result ≡ grammar.size_limit kind }
+{
+    match kind {
+        Kind::Name => 6,
+        _ => 7,
+    }
+}
+
 /// The limit of an operand beside another one.
 pub fn by_size(token: Token, beyond: Mark) -> Mark
     ensures { mark_of result ≡ grammar.or_else (grammar.by_size token) (mark_of beyond) }
 {
-    if !token.over {
-        beyond
-    } else if token.kind == Kind::Name {
-        Mark::Late(6)
+    if token.over {
+        Mark::Late(size_limit(token.kind))
     } else {
-        Mark::Late(7)
+        beyond
     }
 }
 

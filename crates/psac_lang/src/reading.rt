@@ -62,8 +62,7 @@ pub fn expect(tokens: &mut Cursor<'_>, kind: Kind) -> Result<(), Halt>
     ensures settled { OnOk result (tokens.new.0.late ≡ None) }
     ensures shorter { OnOk result (length tokens.new.1 < length tokens.old.1) }
 {
-    take(tokens, kind, Mark::Fine)?;
-    Ok(())
+    take(tokens, kind, Mark::Fine)
 }
 
 /// Goes past an opening parenthesis inside this many others.
@@ -72,8 +71,7 @@ pub fn open_paren(tokens: &mut Cursor<'_>, parens: u8) -> Result<(), Halt>
     ensures shorter { OnOk result (length tokens.new.1 < length tokens.old.1) }
     ensures room { OnOk result (parens < max_parens) }
 {
-    take(tokens, Kind::LeftParen, by_parens(parens, Mark::Fine))?;
-    Ok(())
+    take(tokens, Kind::LeftParen, by_parens(parens, Mark::Fine))
 }
 
 /// A name, which may exceed this limit or be too long.
@@ -92,7 +90,7 @@ pub fn name(tokens: &mut Cursor<'_>) -> Result<u16, Halt>
     ensures reads { Reads of_name a_name result tokens.old tokens.new }
     ensures shorter { OnOk result (length tokens.new.1 < length tokens.old.1) }
 {
-    Ok(named(tokens, Mark::Fine)?)
+    named(tokens, Mark::Fine)
 }
 
 /// A name that is bound beside this many others.
@@ -101,7 +99,7 @@ pub fn bound(tokens: &mut Cursor<'_>, names: usize) -> Result<u16, Halt>
     ensures shorter { OnOk result (length tokens.new.1 < length tokens.old.1) }
     ensures room { OnOk result (names < max_names) }
 {
-    Ok(named(tokens, below(names, MAX_NAMES, 8))?)
+    named(tokens, below(names, MAX_NAMES, 8))
 }
 
 /// The limit on a name of a list, behind this many others.
@@ -121,7 +119,7 @@ pub fn listed(tokens: &mut Cursor<'_>, list: NameList, count: usize) -> Result<u
     ensures shorter { OnOk result (length tokens.new.1 < length tokens.old.1) }
     ensures room { OnOk result (count < max_names) }
 {
-    Ok(named(tokens, list_mark(list, count))?)
+    named(tokens, list_mark(list, count))
 }
 
 /// The mark that ends a list.
