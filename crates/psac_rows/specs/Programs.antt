@@ -1,1008 +1,710 @@
--- The programs of the worked rows.
-use Rattle.std.specs.Prelude.{pos, true, [], ◌∷◌, codes}
+-- The worked programs.
+use Rattle.std.specs.Prelude.{ℕ, suc, ◌+◌, pos, true, false, List, [], ◌∷◌, ◌++◌, codes, length, map, unwrap_or}
+use Rattle.std.specs.Fmt.{decimal}
+use Prim.Native.String.{String}
+use Rattle.psac_ops.specs.declared.op.Op.{Op}
 use Rattle.psac_ops.specs.declared.op.Op.TheVariants as o
+use Rattle.psac_ops.specs.declared.plain.TextId.{TextId}
+use Rattle.psac_syntax.specs.declared.program.Expr.{Expr}
 use Rattle.psac_syntax.specs.declared.program.Expr.TheVariants as e
+use Rattle.psac_syntax.specs.declared.program.Stmt.{Stmt}
 use Rattle.psac_syntax.specs.declared.program.Stmt.TheVariants as s
+use Rattle.psac_syntax.specs.declared.program.ReadItem.{ReadItem}
 use Rattle.psac_syntax.specs.declared.program.Func.{Func}
 use Rattle.psac_syntax.specs.declared.program.Program.{Program}
-use Rattle.psac_model.specs.Fresh.{World}
+use Rattle.psac_model.specs.Fresh.{World, main_of}
 
-abbrev pub sum_main : Func
-sum_main =
-    record {
-      name = 0;
-      values = [];
-      dests = (1 ∷ []);
-      body = ((s.Call 2 2 ((e.Int (pos 0)) ∷ e.Rows ∷ []) (1 ∷ [])) ∷ []);
-      line = 1;
-    }
+-- A program: its text, the tree that the grammar reads in it, and what the series rule tells of it: the line of a refusal,
+-- or nothing.
+pub record Row : Type 0 where
+  pub text : List ℕ
+  pub tree : Program
+  pub told : List ℕ
 
-abbrev pub sum_sum : Func
-sum_sum =
-    record {
-      name = 2;
-      values = (3 ∷ 4 ∷ []);
-      dests = (5 ∷ []);
-      body = ((s.If 5 (e.Apply o.Eq ((e.Apply o.Sub ((e.Name 4) ∷ (e.Name 3) ∷ [])) ∷ (e.Int (pos 1)) ∷ [])) ((s.Read 6 0 ((record { from = e.Cell (e.Name 3) (e.Int (pos 0)); bound = 6 }) ∷ []) ((s.Write 6 5 (e.Name 6)) ∷ [])) ∷ []) ((s.Let 8 7 (e.Apply o.Div ((e.Apply o.Add ((e.Name 3) ∷ (e.Name 4) ∷ [])) ∷ (e.Int (pos 2)) ∷ []))) ∷ (s.New 9 8) ∷ (s.New 10 9) ∷ (s.Par 11 ((s.Call 11 2 ((e.Name 3) ∷ (e.Name 7) ∷ []) (8 ∷ [])) ∷ []) ((s.Call 11 2 ((e.Name 7) ∷ (e.Name 4) ∷ []) (9 ∷ [])) ∷ [])) ∷ (s.Read 12 1 ((record { from = e.Name 8; bound = 6 }) ∷ (record { from = e.Name 9; bound = 10 }) ∷ []) ((s.Write 12 5 (e.Apply o.Add ((e.Name 6) ∷ (e.Name 10) ∷ []))) ∷ [])) ∷ [])) ∷ []);
-      line = 4;
-    }
+-- the bytes of these lines, each ended by a line feed
+abbrev pub lines : List String → List ℕ
+lines [] = []
+lines (line ∷ more) = codes line ++ 10 ∷ lines more
 
-abbrev pub sum : Program
+abbrev pub words : List String → List (List ℕ)
+words strings = map codes strings
+
+abbrev pub parsed : List String → List (List ℕ) → ℕ → List Func → Program
+parsed names texts blocks funcs = record { names = words names; texts = texts; funcs = funcs; blocks = blocks }
+
+abbrev pub int : ℕ → Expr
+int n = e.Int (pos n)
+
+abbrev pub binary : Op → Expr → Expr → Expr
+binary op left right = e.Apply op (left ∷ right ∷ [])
+
+abbrev pub reads : ℕ → Expr → ReadItem
+reads bound from = record { from = from; bound = bound }
+
+abbrev pub func : ℕ → List ℕ → List ℕ → ℕ → List Stmt → Func
+func name values dests line body = record { name = name; values = values; dests = dests; body = body; line = line }
+
+-- the ids that these texts get, in their order
+abbrev pub ids_from : ℕ → List (List ℕ) → List TextId
+ids_from id [] = []
+ids_from id (text ∷ more) = record { id = id; len = length text } ∷ ids_from (suc id) more
+
+-- what is run of a program that has a main
+abbrev pub world : Row → World
+world row =
+    let p = row.tree in
+    record { program = p; texts = ids_from 0 p.texts; main = unwrap_or (main_of p) (func 0 [] [] 0 []) }
+
+-- the text of a function that sums the cells from one row up to another
+abbrev pub sum_by_halves : List ℕ
+sum_by_halves =
+    lines
+    ("func sum(lo, hi; d) {" ∷
+    "  if hi - lo == 1 {" ∷
+    "    read cell(lo, 0) as x { write d = x; }" ∷
+    "  } else {" ∷
+    "    let mid = (lo + hi) / 2;" ∷
+    "    new a;" ∷
+    "    new b;" ∷
+    "    par { call sum(lo, mid; a); } { call sum(mid, hi; b); }" ∷
+    "    read a as x, b as y { write d = x + y; }" ∷
+    "  }" ∷
+    "}" ∷ [])
+
+abbrev pub sum : Row
 sum =
     record {
-      names = ((codes "main") ∷ (codes "out") ∷ (codes "sum") ∷ (codes "lo") ∷ (codes "hi") ∷ (codes "d") ∷ (codes "x") ∷ (codes "mid") ∷ (codes "a") ∷ (codes "b") ∷ (codes "y") ∷ []);
-      texts = [];
-      funcs = (sum_main ∷ sum_sum ∷ []);
-      blocks = 2;
+      text =
+          lines
+          ("func main(; out) {" ∷
+          "  call sum(0, rows; out);" ∷
+          "}" ∷ [])
+          ++ sum_by_halves;
+      tree =
+          parsed ("main" ∷ "out" ∷ "sum" ∷ "lo" ∷ "hi" ∷ "d" ∷ "x" ∷ "mid" ∷ "a" ∷ "b" ∷ "y" ∷ []) [] 2
+          (func 0 [] (1 ∷ []) 1 (s.Call 2 2 (int 0 ∷ e.Rows ∷ []) (1 ∷ []) ∷ []) ∷
+          func 2 (3 ∷ 4 ∷ []) (5 ∷ []) 4
+          (s.If 5 (binary o.Eq (binary o.Sub (e.Name 4) (e.Name 3)) (int 1))
+          (s.Read 6 0 (reads 6 (e.Cell (e.Name 3) (int 0)) ∷ []) (s.Write 6 5 (e.Name 6) ∷ []) ∷ [])
+          (s.Let 8 7 (binary o.Div (binary o.Add (e.Name 3) (e.Name 4)) (int 2)) ∷
+          s.New 9 8 ∷
+          s.New 10 9 ∷
+          s.Par 11
+          (s.Call 11 2 (e.Name 3 ∷ e.Name 7 ∷ []) (8 ∷ []) ∷ [])
+          (s.Call 11 2 (e.Name 7 ∷ e.Name 4 ∷ []) (9 ∷ []) ∷ []) ∷
+          s.Read 12 1 (reads 6 (e.Name 8) ∷ reads 10 (e.Name 9) ∷ [])
+          (s.Write 12 5 (binary o.Add (e.Name 6) (e.Name 10)) ∷ []) ∷ []) ∷ []) ∷ []);
+      told = [];
     }
 
-abbrev pub sum_world : World
-sum_world = record { program = sum; texts = []; main = sum_main }
-
-abbrev pub double_main : Func
-double_main =
-    record {
-      name = 0;
-      values = [];
-      dests = (1 ∷ []);
-      body = ((s.Read 2 0 ((record { from = e.Cell (e.Int (pos 0)) (e.Int (pos 0)); bound = 2 }) ∷ []) ((s.Write 3 1 (e.Apply o.Mul ((e.Name 2) ∷ (e.Int (pos 2)) ∷ []))) ∷ [])) ∷ []);
-      line = 1;
-    }
-
-abbrev pub double : Program
+abbrev pub double : Row
 double =
     record {
-      names = ((codes "main") ∷ (codes "out") ∷ (codes "x") ∷ []);
-      texts = [];
-      funcs = (double_main ∷ []);
-      blocks = 1;
+      text =
+          lines
+          ("func main(; out) {" ∷
+          "  read cell(0, 0) as x {" ∷
+          "    write out = x * 2;" ∷
+          "  }" ∷
+          "}" ∷ []);
+      tree =
+          parsed ("main" ∷ "out" ∷ "x" ∷ []) [] 1
+          (func 0 [] (1 ∷ []) 1
+          (s.Read 2 0 (reads 2 (e.Cell (int 0) (int 0)) ∷ [])
+          (s.Write 3 1 (binary o.Mul (e.Name 2) (int 2)) ∷ []) ∷ []) ∷ []);
+      told = [];
     }
 
-abbrev pub double_world : World
-double_world = record { program = double; texts = []; main = double_main }
-
-abbrev pub made_again_main : Func
-made_again_main =
-    record {
-      name = 0;
-      values = [];
-      dests = (1 ∷ []);
-      body = ((s.New 2 2) ∷ (s.Read 3 0 ((record { from = e.Cell (e.Int (pos 0)) (e.Int (pos 0)); bound = 3 }) ∷ []) ((s.New 4 4) ∷ (s.Write 5 4 (e.Apply o.Div ((e.Name 3) ∷ (e.Int (pos 10)) ∷ []))) ∷ (s.Write 6 2 (e.Name 4)) ∷ [])) ∷ (s.Read 8 1 ((record { from = e.Name 2; bound = 5 }) ∷ []) ((s.Read 9 2 ((record { from = e.Name 5; bound = 6 }) ∷ []) ((s.Write 9 1 (e.Name 6)) ∷ [])) ∷ [])) ∷ []);
-      line = 1;
-    }
-
-abbrev pub made_again : Program
+abbrev pub made_again : Row
 made_again =
     record {
-      names = ((codes "main") ∷ (codes "out") ∷ (codes "p") ∷ (codes "x") ∷ (codes "q") ∷ (codes "r") ∷ (codes "y") ∷ []);
-      texts = [];
-      funcs = (made_again_main ∷ []);
-      blocks = 3;
+      text =
+          lines
+          ("func main(; out) {" ∷
+          "  new p;" ∷
+          "  read cell(0, 0) as x {" ∷
+          "    new q;" ∷
+          "    write q = x / 10;" ∷
+          "    write p = q;" ∷
+          "  }" ∷
+          "  read p as r {" ∷
+          "    read r as y { write out = y; }" ∷
+          "  }" ∷
+          "}" ∷ []);
+      tree =
+          parsed ("main" ∷ "out" ∷ "p" ∷ "x" ∷ "q" ∷ "r" ∷ "y" ∷ []) [] 3
+          (func 0 [] (1 ∷ []) 1
+          (s.New 2 2 ∷
+          s.Read 3 0 (reads 3 (e.Cell (int 0) (int 0)) ∷ [])
+          (s.New 4 4 ∷ s.Write 5 4 (binary o.Div (e.Name 3) (int 10)) ∷ s.Write 6 2 (e.Name 4) ∷ []) ∷
+          s.Read 8 1 (reads 5 (e.Name 2) ∷ [])
+          (s.Read 9 2 (reads 6 (e.Name 5) ∷ []) (s.Write 9 1 (e.Name 6) ∷ []) ∷ []) ∷ []) ∷ []);
+      told = [];
     }
 
-abbrev pub made_again_world : World
-made_again_world = record { program = made_again; texts = []; main = made_again_main }
-
-abbrev pub nested_main : Func
-nested_main =
-    record {
-      name = 0;
-      values = [];
-      dests = (1 ∷ []);
-      body = ((s.Read 2 0 ((record { from = e.Cell (e.Int (pos 0)) (e.Int (pos 0)); bound = 2 }) ∷ []) ((s.Read 3 1 ((record { from = e.Cell (e.Int (pos 0)) (e.Int (pos 0)); bound = 3 }) ∷ []) ((s.Write 3 1 (e.Apply o.Add ((e.Name 2) ∷ (e.Name 3) ∷ []))) ∷ [])) ∷ [])) ∷ []);
-      line = 1;
-    }
-
-abbrev pub nested : Program
+abbrev pub nested : Row
 nested =
     record {
-      names = ((codes "main") ∷ (codes "out") ∷ (codes "x") ∷ (codes "y") ∷ []);
-      texts = [];
-      funcs = (nested_main ∷ []);
-      blocks = 2;
+      text =
+          lines
+          ("func main(; out) {" ∷
+          "  read cell(0, 0) as x {" ∷
+          "    read cell(0, 0) as y { write out = x + y; }" ∷
+          "  }" ∷
+          "}" ∷ []);
+      tree =
+          parsed ("main" ∷ "out" ∷ "x" ∷ "y" ∷ []) [] 2
+          (func 0 [] (1 ∷ []) 1
+          (s.Read 2 0 (reads 2 (e.Cell (int 0) (int 0)) ∷ [])
+          (s.Read 3 1 (reads 3 (e.Cell (int 0) (int 0)) ∷ [])
+          (s.Write 3 1 (binary o.Add (e.Name 2) (e.Name 3)) ∷ []) ∷ []) ∷ []) ∷ []);
+      told = [];
     }
 
-abbrev pub nested_world : World
-nested_world = record { program = nested; texts = []; main = nested_main }
-
-abbrev pub two_outputs_main : Func
-two_outputs_main =
-    record {
-      name = 0;
-      values = [];
-      dests = (1 ∷ 2 ∷ []);
-      body = ((s.Read 2 0 ((record { from = e.Cell (e.Int (pos 0)) (e.Int (pos 0)); bound = 3 }) ∷ []) ((s.New 3 4) ∷ (s.Write 4 4 (e.Name 3)) ∷ (s.Write 5 1 (e.Name 4)) ∷ [])) ∷ (s.Read 7 1 ((record { from = e.Cell (e.Int (pos 1)) (e.Int (pos 0)); bound = 5 }) ∷ []) ((s.Write 7 2 (e.Name 5)) ∷ [])) ∷ []);
-      line = 1;
-    }
-
-abbrev pub two_outputs : Program
+abbrev pub two_outputs : Row
 two_outputs =
     record {
-      names = ((codes "main") ∷ (codes "out") ∷ (codes "other") ∷ (codes "x") ∷ (codes "q") ∷ (codes "y") ∷ []);
-      texts = [];
-      funcs = (two_outputs_main ∷ []);
-      blocks = 2;
+      text =
+          lines
+          ("func main(; out, other) {" ∷
+          "  read cell(0, 0) as x {" ∷
+          "    new q;" ∷
+          "    write q = x;" ∷
+          "    write out = q;" ∷
+          "  }" ∷
+          "  read cell(1, 0) as y { write other = y; }" ∷
+          "}" ∷ []);
+      tree =
+          parsed ("main" ∷ "out" ∷ "other" ∷ "x" ∷ "q" ∷ "y" ∷ []) [] 2
+          (func 0 [] (1 ∷ 2 ∷ []) 1
+          (s.Read 2 0 (reads 3 (e.Cell (int 0) (int 0)) ∷ [])
+          (s.New 3 4 ∷ s.Write 4 4 (e.Name 3) ∷ s.Write 5 1 (e.Name 4) ∷ []) ∷
+          s.Read 7 1 (reads 5 (e.Cell (int 1) (int 0)) ∷ []) (s.Write 7 2 (e.Name 5) ∷ []) ∷ []) ∷ []);
+      told = [];
     }
 
-abbrev pub two_outputs_world : World
-two_outputs_world = record { program = two_outputs; texts = []; main = two_outputs_main }
-
-abbrev pub deep_main : Func
-deep_main =
+-- calls that go on up to the last one, two levels deeper at each; there this block stands
+abbrev pub calls_until : List String → String → ℕ → List Stmt → ℕ → Row
+calls_until block name blocks body last =
     record {
-      name = 0;
-      values = [];
-      dests = (1 ∷ []);
-      body = ((s.Call 1 2 ((e.Int (pos 0)) ∷ []) (1 ∷ [])) ∷ []);
-      line = 1;
+      text =
+          lines ("func main(; out) { call f(0; out); }" ∷ "func f(n; d) {" ∷ [])
+          ++ codes "  if n == "
+          ++ decimal last
+          ++ lines (" {" ∷ [])
+          ++ lines block
+          ++ lines ("  } else { call f(n + 1; d); }" ∷ "}" ∷ []);
+      tree =
+          parsed ("main" ∷ "out" ∷ "f" ∷ "n" ∷ "d" ∷ name ∷ []) [] blocks
+          (func 0 [] (1 ∷ []) 1 (s.Call 1 2 (int 0 ∷ []) (1 ∷ []) ∷ []) ∷
+          func 2 (3 ∷ []) (4 ∷ []) 2
+          (s.If 3 (binary o.Eq (e.Name 3) (int last)) body
+          (s.Call (length block + 4) 2 (binary o.Add (e.Name 3) (int 1) ∷ []) (4 ∷ []) ∷ []) ∷ []) ∷ []);
+      told = [];
     }
 
-abbrev pub deep_f : Func
-deep_f =
-    record {
-      name = 2;
-      values = (3 ∷ []);
-      dests = (4 ∷ []);
-      body = ((s.If 3 (e.Apply o.Eq ((e.Name 3) ∷ (e.Int (pos 148)) ∷ [])) ((s.Let 4 5 (e.Name 3)) ∷ (s.Write 5 4 (e.Name 5)) ∷ []) ((s.Call 6 2 ((e.Apply o.Add ((e.Name 3) ∷ (e.Int (pos 1)) ∷ [])) ∷ []) (4 ∷ [])) ∷ [])) ∷ []);
-      line = 2;
-    }
+abbrev pub deep_until : ℕ → Row
+deep_until =
+    calls_until ("    let k = n;" ∷ "    write d = k;" ∷ []) "k" 0
+    (s.Let 4 5 (e.Name 3) ∷ s.Write 5 4 (e.Name 5) ∷ [])
 
-abbrev pub deep : Program
-deep =
-    record {
-      names = ((codes "main") ∷ (codes "out") ∷ (codes "f") ∷ (codes "n") ∷ (codes "d") ∷ (codes "k") ∷ []);
-      texts = [];
-      funcs = (deep_main ∷ deep_f ∷ []);
-      blocks = 0;
-    }
+abbrev pub deep_read_until : ℕ → Row
+deep_read_until =
+    calls_until ("    read cell(0, 0) as x { write d = x; }" ∷ []) "x" 1
+    (s.Read 4 0 (reads 5 (e.Cell (int 0) (int 0)) ∷ []) (s.Write 4 4 (e.Name 5) ∷ []) ∷ [])
 
-abbrev pub deep_world : World
-deep_world = record { program = deep; texts = []; main = deep_main }
+abbrev pub deep : Row
+deep = deep_until 148
 
-abbrev pub both_fault_main : Func
-both_fault_main =
-    record {
-      name = 0;
-      values = [];
-      dests = (1 ∷ 2 ∷ []);
-      body = ((s.Par 2 ((s.Write 3 1 (e.Apply o.Div ((e.Int (pos 1)) ∷ (e.Int (pos 0)) ∷ []))) ∷ []) ((s.Write 5 2 (e.Apply o.Add (e.Nil ∷ (e.Int (pos 1)) ∷ []))) ∷ [])) ∷ []);
-      line = 1;
-    }
-
-abbrev pub both_fault : Program
+abbrev pub both_fault : Row
 both_fault =
     record {
-      names = ((codes "main") ∷ (codes "a") ∷ (codes "b") ∷ []);
-      texts = [];
-      funcs = (both_fault_main ∷ []);
-      blocks = 0;
+      text =
+          lines
+          ("func main(; a, b) {" ∷
+          "  par {" ∷
+          "    write a = 1 / 0;" ∷
+          "  } {" ∷
+          "    write b = nil + 1;" ∷
+          "  }" ∷
+          "}" ∷ []);
+      tree =
+          parsed ("main" ∷ "a" ∷ "b" ∷ []) [] 0
+          (func 0 [] (1 ∷ 2 ∷ []) 1
+          (s.Par 2
+          (s.Write 3 1 (binary o.Div (int 1) (int 0)) ∷ [])
+          (s.Write 5 2 (binary o.Add e.Nil (int 1)) ∷ []) ∷ []) ∷ []);
+      told = [];
     }
 
-abbrev pub both_fault_world : World
-both_fault_world = record { program = both_fault; texts = []; main = both_fault_main }
-
-abbrev pub empty_main : Func
-empty_main =
-    record {
-      name = 0;
-      values = [];
-      dests = [];
-      body = [];
-      line = 1;
-    }
-
-abbrev pub empty : Program
+abbrev pub empty : Row
 empty =
     record {
-      names = ((codes "main") ∷ []);
-      texts = [];
-      funcs = (empty_main ∷ []);
-      blocks = 0;
+      text = lines ("func main(;) { }" ∷ []);
+      tree = parsed ("main" ∷ []) [] 0 (func 0 [] [] 1 [] ∷ []);
+      told = [];
     }
 
-abbrev pub empty_world : World
-empty_world = record { program = empty; texts = []; main = empty_main }
-
-abbrev pub reads_across_main : Func
-reads_across_main =
-    record {
-      name = 0;
-      values = [];
-      dests = (1 ∷ 2 ∷ []);
-      body = ((s.Par 2 ((s.Write 3 1 (e.Int (pos 1))) ∷ []) ((s.Read 5 0 ((record { from = e.Name 1; bound = 3 }) ∷ []) ((s.Write 5 2 (e.Name 3)) ∷ [])) ∷ [])) ∷ []);
-      line = 1;
-    }
-
-abbrev pub reads_across : Program
+abbrev pub reads_across : Row
 reads_across =
     record {
-      names = ((codes "main") ∷ (codes "a") ∷ (codes "b") ∷ (codes "x") ∷ []);
-      texts = [];
-      funcs = (reads_across_main ∷ []);
-      blocks = 1;
+      text =
+          lines
+          ("func main(; a, b) {" ∷
+          "  par {" ∷
+          "    write a = 1;" ∷
+          "  } {" ∷
+          "    read a as x { write b = x; }" ∷
+          "  }" ∷
+          "}" ∷ []);
+      tree =
+          parsed ("main" ∷ "a" ∷ "b" ∷ "x" ∷ []) [] 1
+          (func 0 [] (1 ∷ 2 ∷ []) 1
+          (s.Par 2
+          (s.Write 3 1 (int 1) ∷ [])
+          (s.Read 5 0 (reads 3 (e.Name 1) ∷ []) (s.Write 5 2 (e.Name 3) ∷ []) ∷ []) ∷ []) ∷ []);
+      told = codes "program line 5 read before write\n";
     }
 
-abbrev pub reads_across_world : World
-reads_across_world = record { program = reads_across; texts = []; main = reads_across_main }
-
-abbrev pub branches_differ_main : Func
-branches_differ_main =
-    record {
-      name = 0;
-      values = [];
-      dests = (1 ∷ 2 ∷ []);
-      body = ((s.If 2 (e.Apply o.Eq ((e.Int (pos 1)) ∷ (e.Int (pos 1)) ∷ [])) ((s.Write 2 1 (e.Int (pos 1))) ∷ []) ((s.Write 2 2 (e.Int (pos 2))) ∷ [])) ∷ []);
-      line = 1;
-    }
-
-abbrev pub branches_differ : Program
+abbrev pub branches_differ : Row
 branches_differ =
     record {
-      names = ((codes "main") ∷ (codes "a") ∷ (codes "b") ∷ []);
-      texts = [];
-      funcs = (branches_differ_main ∷ []);
-      blocks = 0;
+      text =
+          lines
+          ("func main(; a, b) {" ∷
+          "  if 1 == 1 { write a = 1; } else { write b = 2; }" ∷
+          "}" ∷ []);
+      tree =
+          parsed ("main" ∷ "a" ∷ "b" ∷ []) [] 0
+          (func 0 [] (1 ∷ 2 ∷ []) 1
+          (s.If 2 (binary o.Eq (int 1) (int 1)) (s.Write 2 1 (int 1) ∷ []) (s.Write 2 2 (int 2) ∷ []) ∷ []) ∷ []);
+      told = codes "program line 2 branches differ\n";
     }
 
-abbrev pub branches_differ_world : World
-branches_differ_world = record { program = branches_differ; texts = []; main = branches_differ_main }
-
-abbrev pub both_write_main : Func
-both_write_main =
-    record {
-      name = 0;
-      values = [];
-      dests = (1 ∷ []);
-      body = ((s.Par 2 ((s.Write 2 1 (e.Int (pos 1))) ∷ []) ((s.Write 2 1 (e.Int (pos 2))) ∷ [])) ∷ []);
-      line = 1;
-    }
-
-abbrev pub both_write : Program
+abbrev pub both_write : Row
 both_write =
     record {
-      names = ((codes "main") ∷ (codes "a") ∷ []);
-      texts = [];
-      funcs = (both_write_main ∷ []);
-      blocks = 0;
+      text =
+          lines
+          ("func main(; a) {" ∷
+          "  par { write a = 1; } { write a = 2; }" ∷
+          "}" ∷ []);
+      tree =
+          parsed ("main" ∷ "a" ∷ []) [] 0
+          (func 0 [] (1 ∷ []) 1 (s.Par 2 (s.Write 2 1 (int 1) ∷ []) (s.Write 2 1 (int 2) ∷ []) ∷ []) ∷ []);
+      told = codes "program line 2 written in both sides\n";
     }
 
-abbrev pub both_write_world : World
-both_write_world = record { program = both_write; texts = []; main = both_write_main }
-
-abbrev pub quoted_cell_main : Func
-quoted_cell_main =
-    record {
-      name = 0;
-      values = [];
-      dests = (1 ∷ []);
-      body = ((s.Read 2 0 ((record { from = e.Cell (e.Int (pos 0)) (e.Int (pos 1)); bound = 2 }) ∷ []) ((s.Write 2 1 (e.Name 2)) ∷ [])) ∷ []);
-      line = 1;
-    }
-
-abbrev pub quoted_cell : Program
+abbrev pub quoted_cell : Row
 quoted_cell =
     record {
-      names = ((codes "main") ∷ (codes "out") ∷ (codes "x") ∷ []);
-      texts = [];
-      funcs = (quoted_cell_main ∷ []);
-      blocks = 1;
+      text =
+          lines
+          ("func main(; out) {" ∷
+          "  read cell(0, 1) as x { write out = x; }" ∷
+          "}" ∷ []);
+      tree =
+          parsed ("main" ∷ "out" ∷ "x" ∷ []) [] 1
+          (func 0 [] (1 ∷ []) 1
+          (s.Read 2 0 (reads 2 (e.Cell (int 0) (int 1)) ∷ []) (s.Write 2 1 (e.Name 2) ∷ []) ∷ []) ∷ []);
+      told = [];
     }
 
-abbrev pub quoted_cell_world : World
-quoted_cell_world = record { program = quoted_cell; texts = []; main = quoted_cell_main }
-
-abbrev pub add_one_main : Func
-add_one_main =
-    record {
-      name = 0;
-      values = [];
-      dests = (1 ∷ []);
-      body = ((s.Read 2 0 ((record { from = e.Cell (e.Int (pos 0)) (e.Int (pos 0)); bound = 2 }) ∷ []) ((s.Write 3 1 (e.Apply o.Add ((e.Name 2) ∷ (e.Int (pos 1)) ∷ []))) ∷ [])) ∷ []);
-      line = 1;
-    }
-
-abbrev pub add_one : Program
+abbrev pub add_one : Row
 add_one =
     record {
-      names = ((codes "main") ∷ (codes "out") ∷ (codes "x") ∷ []);
-      texts = [];
-      funcs = (add_one_main ∷ []);
-      blocks = 1;
+      text =
+          lines
+          ("func main(; out) {" ∷
+          "  read cell(0, 0) as x {" ∷
+          "    write out = x + 1;" ∷
+          "  }" ∷
+          "}" ∷ []);
+      tree =
+          parsed ("main" ∷ "out" ∷ "x" ∷ []) [] 1
+          (func 0 [] (1 ∷ []) 1
+          (s.Read 2 0 (reads 2 (e.Cell (int 0) (int 0)) ∷ [])
+          (s.Write 3 1 (binary o.Add (e.Name 2) (int 1)) ∷ []) ∷ []) ∷ []);
+      told = [];
     }
 
-abbrev pub add_one_world : World
-add_one_world = record { program = add_one; texts = []; main = add_one_main }
-
-abbrev pub sales_main : Func
-sales_main =
-    record {
-      name = 0;
-      values = [];
-      dests = (1 ∷ []);
-      body = ((s.If 2 (e.Apply o.Eq (e.Rows ∷ (e.Int (pos 0)) ∷ [])) ((s.Write 3 1 (e.Int (pos 0))) ∷ []) ((s.Call 5 2 ((e.Int (pos 0)) ∷ e.Rows ∷ []) (1 ∷ [])) ∷ [])) ∷ []);
-      line = 1;
-    }
-
-abbrev pub sales_add : Func
-sales_add =
-    record {
-      name = 2;
-      values = (3 ∷ 4 ∷ []);
-      dests = (5 ∷ []);
-      body = ((s.If 9 (e.Apply o.Eq ((e.Apply o.Sub ((e.Name 4) ∷ (e.Name 3) ∷ [])) ∷ (e.Int (pos 1)) ∷ [])) ((s.Read 10 0 ((record { from = e.Cell (e.Name 3) (e.Int (pos 0)); bound = 6 }) ∷ (record { from = e.Cell (e.Name 3) (e.Int (pos 1)); bound = 7 }) ∷ []) ((s.If 11 (e.Apply o.Eq ((e.Name 6) ∷ (e.Text 0) ∷ [])) ((s.Write 11 5 (e.Name 7)) ∷ []) ((s.Write 11 5 (e.Int (pos 0))) ∷ [])) ∷ [])) ∷ []) ((s.Let 14 8 (e.Apply o.Div ((e.Apply o.Add ((e.Name 3) ∷ (e.Name 4) ∷ [])) ∷ (e.Int (pos 2)) ∷ []))) ∷ (s.New 15 9) ∷ (s.New 16 10) ∷ (s.Par 17 ((s.Call 17 2 ((e.Name 3) ∷ (e.Name 8) ∷ []) (9 ∷ [])) ∷ []) ((s.Call 17 2 ((e.Name 8) ∷ (e.Name 4) ∷ []) (10 ∷ [])) ∷ [])) ∷ (s.Read 18 1 ((record { from = e.Name 9; bound = 11 }) ∷ (record { from = e.Name 10; bound = 12 }) ∷ []) ((s.Write 18 5 (e.Apply o.Add ((e.Name 11) ∷ (e.Name 12) ∷ []))) ∷ [])) ∷ [])) ∷ []);
-      line = 8;
-    }
-
-abbrev pub sales : Program
+abbrev pub sales : Row
 sales =
     record {
-      names = ((codes "main") ∷ (codes "total") ∷ (codes "add") ∷ (codes "lo") ∷ (codes "hi") ∷ (codes "d") ∷ (codes "place") ∷ (codes "amount") ∷ (codes "mid") ∷ (codes "a") ∷ (codes "b") ∷ (codes "x") ∷ (codes "y") ∷ []);
-      texts = ((codes "north") ∷ []);
-      funcs = (sales_main ∷ sales_add ∷ []);
-      blocks = 2;
+      text =
+          lines
+          ("func main(; total) {" ∷
+          "  if rows == 0 {" ∷
+          "    write total = 0;" ∷
+          "  } else {" ∷
+          "    call add(0, rows; total);" ∷
+          "  }" ∷
+          "}" ∷
+          "func add(lo, hi; d) {" ∷
+          "  if hi - lo == 1 {" ∷
+          "    read cell(lo, 0) as place, cell(lo, 1) as amount {" ∷
+          "      if place == \"north\" { write d = amount; } else { write d = 0; }" ∷
+          "    }" ∷
+          "  } else {" ∷
+          "    let mid = (lo + hi) / 2;" ∷
+          "    new a;" ∷
+          "    new b;" ∷
+          "    par { call add(lo, mid; a); } { call add(mid, hi; b); }" ∷
+          "    read a as x, b as y { write d = x + y; }" ∷
+          "  }" ∷
+          "}" ∷ []);
+      tree =
+          parsed ("main" ∷ "total" ∷ "add" ∷ "lo" ∷ "hi" ∷ "d" ∷ "place" ∷ "amount" ∷ "mid" ∷ "a" ∷ "b" ∷ "x" ∷ "y" ∷ [])
+          (words ("north" ∷ [])) 2
+          (func 0 [] (1 ∷ []) 1
+          (s.If 2 (binary o.Eq e.Rows (int 0))
+          (s.Write 3 1 (int 0) ∷ [])
+          (s.Call 5 2 (int 0 ∷ e.Rows ∷ []) (1 ∷ []) ∷ []) ∷ []) ∷
+          func 2 (3 ∷ 4 ∷ []) (5 ∷ []) 8
+          (s.If 9 (binary o.Eq (binary o.Sub (e.Name 4) (e.Name 3)) (int 1))
+          (s.Read 10 0 (reads 6 (e.Cell (e.Name 3) (int 0)) ∷ reads 7 (e.Cell (e.Name 3) (int 1)) ∷ [])
+          (s.If 11 (binary o.Eq (e.Name 6) (e.Text 0))
+          (s.Write 11 5 (e.Name 7) ∷ [])
+          (s.Write 11 5 (int 0) ∷ []) ∷ []) ∷ [])
+          (s.Let 14 8 (binary o.Div (binary o.Add (e.Name 3) (e.Name 4)) (int 2)) ∷
+          s.New 15 9 ∷
+          s.New 16 10 ∷
+          s.Par 17
+          (s.Call 17 2 (e.Name 3 ∷ e.Name 8 ∷ []) (9 ∷ []) ∷ [])
+          (s.Call 17 2 (e.Name 8 ∷ e.Name 4 ∷ []) (10 ∷ []) ∷ []) ∷
+          s.Read 18 1 (reads 11 (e.Name 9) ∷ reads 12 (e.Name 10) ∷ [])
+          (s.Write 18 5 (binary o.Add (e.Name 11) (e.Name 12)) ∷ []) ∷ []) ∷ []) ∷ []);
+      told = [];
     }
 
-abbrev pub sales_world : World
-sales_world = record { program = sales; texts = ((record { id = 0; len = 5 }) ∷ []); main = sales_main }
-
-abbrev pub pair_of_main : Func
-pair_of_main =
-    record {
-      name = 0;
-      values = [];
-      dests = (1 ∷ []);
-      body = ((s.New 2 2) ∷ (s.Write 3 2 (e.Int (pos 5))) ∷ (s.Write 4 1 (e.Apply o.Pair ((e.Name 2) ∷ (e.Cell (e.Int (pos 0)) (e.Int (pos 0))) ∷ []))) ∷ []);
-      line = 1;
-    }
-
-abbrev pub pair_of : Program
+abbrev pub pair_of : Row
 pair_of =
     record {
-      names = ((codes "main") ∷ (codes "out") ∷ (codes "a") ∷ []);
-      texts = [];
-      funcs = (pair_of_main ∷ []);
-      blocks = 0;
+      text =
+          lines
+          ("func main(; out) {" ∷
+          "  new a;" ∷
+          "  write a = 5;" ∷
+          "  write out = pair(a, cell(0, 0));" ∷
+          "}" ∷ []);
+      tree =
+          parsed ("main" ∷ "out" ∷ "a" ∷ []) [] 0
+          (func 0 [] (1 ∷ []) 1
+          (s.New 2 2 ∷ s.Write 3 2 (int 5) ∷ s.Write 4 1 (binary o.Pair (e.Name 2) (e.Cell (int 0) (int 0))) ∷ []) ∷ []);
+      told = [];
     }
 
-abbrev pub pair_of_world : World
-pair_of_world = record { program = pair_of; texts = []; main = pair_of_main }
-
-abbrev pub two_quotients_main : Func
-two_quotients_main =
-    record {
-      name = 0;
-      values = [];
-      dests = (1 ∷ 2 ∷ []);
-      body = ((s.Par 2 ((s.Read 3 0 ((record { from = e.Cell (e.Int (pos 0)) (e.Int (pos 0)); bound = 3 }) ∷ []) ((s.Write 3 1 (e.Apply o.Div ((e.Int (pos 10)) ∷ (e.Name 3) ∷ []))) ∷ [])) ∷ []) ((s.Read 5 1 ((record { from = e.Cell (e.Int (pos 1)) (e.Int (pos 0)); bound = 4 }) ∷ []) ((s.Write 5 2 (e.Apply o.Div ((e.Int (pos 10)) ∷ (e.Name 4) ∷ []))) ∷ [])) ∷ [])) ∷ []);
-      line = 1;
-    }
-
-abbrev pub two_quotients : Program
+abbrev pub two_quotients : Row
 two_quotients =
     record {
-      names = ((codes "main") ∷ (codes "a") ∷ (codes "b") ∷ (codes "x") ∷ (codes "y") ∷ []);
-      texts = [];
-      funcs = (two_quotients_main ∷ []);
-      blocks = 2;
+      text =
+          lines
+          ("func main(; a, b) {" ∷
+          "  par {" ∷
+          "    read cell(0, 0) as x { write a = 10 / x; }" ∷
+          "  } {" ∷
+          "    read cell(1, 0) as y { write b = 10 / y; }" ∷
+          "  }" ∷
+          "}" ∷ []);
+      tree =
+          parsed ("main" ∷ "a" ∷ "b" ∷ "x" ∷ "y" ∷ []) [] 2
+          (func 0 [] (1 ∷ 2 ∷ []) 1
+          (s.Par 2
+          (s.Read 3 0 (reads 3 (e.Cell (int 0) (int 0)) ∷ [])
+          (s.Write 3 1 (binary o.Div (int 10) (e.Name 3)) ∷ []) ∷ [])
+          (s.Read 5 1 (reads 4 (e.Cell (int 1) (int 0)) ∷ [])
+          (s.Write 5 2 (binary o.Div (int 10) (e.Name 4)) ∷ []) ∷ []) ∷ []) ∷ []);
+      told = [];
     }
 
-abbrev pub two_quotients_world : World
-two_quotients_world = record { program = two_quotients; texts = []; main = two_quotients_main }
+abbrev pub deep_read : Row
+deep_read = deep_read_until 148
 
-abbrev pub deep_read_main : Func
-deep_read_main =
-    record {
-      name = 0;
-      values = [];
-      dests = (1 ∷ []);
-      body = ((s.Call 1 2 ((e.Int (pos 0)) ∷ []) (1 ∷ [])) ∷ []);
-      line = 1;
-    }
-
-abbrev pub deep_read_f : Func
-deep_read_f =
-    record {
-      name = 2;
-      values = (3 ∷ []);
-      dests = (4 ∷ []);
-      body = ((s.If 3 (e.Apply o.Eq ((e.Name 3) ∷ (e.Int (pos 148)) ∷ [])) ((s.Read 4 0 ((record { from = e.Cell (e.Int (pos 0)) (e.Int (pos 0)); bound = 5 }) ∷ []) ((s.Write 4 4 (e.Name 5)) ∷ [])) ∷ []) ((s.Call 5 2 ((e.Apply o.Add ((e.Name 3) ∷ (e.Int (pos 1)) ∷ [])) ∷ []) (4 ∷ [])) ∷ [])) ∷ []);
-      line = 2;
-    }
-
-abbrev pub deep_read : Program
-deep_read =
-    record {
-      names = ((codes "main") ∷ (codes "out") ∷ (codes "f") ∷ (codes "n") ∷ (codes "d") ∷ (codes "x") ∷ []);
-      texts = [];
-      funcs = (deep_read_main ∷ deep_read_f ∷ []);
-      blocks = 1;
-    }
-
-abbrev pub deep_read_world : World
-deep_read_world = record { program = deep_read; texts = []; main = deep_read_main }
-
-abbrev pub many_pars_main : Func
-many_pars_main =
-    record {
-      name = 0;
-      values = [];
-      dests = (1 ∷ []);
-      body = ((s.Call 1 2 ((e.Int (pos 0)) ∷ []) (1 ∷ [])) ∷ []);
-      line = 1;
-    }
-
-abbrev pub many_pars_f : Func
-many_pars_f =
-    record {
-      name = 2;
-      values = (3 ∷ []);
-      dests = (4 ∷ []);
-      body = ((s.If 3 (e.Apply o.Eq ((e.Name 3) ∷ (e.Int (pos 70)) ∷ [])) ((s.Write 3 4 (e.Name 3)) ∷ []) ((s.New 4 5) ∷ (s.Par 5 ((s.Call 5 2 ((e.Apply o.Add ((e.Name 3) ∷ (e.Int (pos 1)) ∷ [])) ∷ []) (5 ∷ [])) ∷ []) []) ∷ (s.Read 6 0 ((record { from = e.Name 5; bound = 6 }) ∷ []) ((s.Write 6 4 (e.Name 6)) ∷ [])) ∷ [])) ∷ []);
-      line = 2;
-    }
-
-abbrev pub many_pars : Program
+abbrev pub many_pars : Row
 many_pars =
     record {
-      names = ((codes "main") ∷ (codes "out") ∷ (codes "f") ∷ (codes "n") ∷ (codes "d") ∷ (codes "a") ∷ (codes "x") ∷ []);
-      texts = [];
-      funcs = (many_pars_main ∷ many_pars_f ∷ []);
-      blocks = 1;
+      text =
+          lines
+          ("func main(; out) { call f(0; out); }" ∷
+          "func f(n; d) {" ∷
+          "  if n == 70 { write d = n; } else {" ∷
+          "    new a;" ∷
+          "    par { call f(n + 1; a); } { }" ∷
+          "    read a as x { write d = x; }" ∷
+          "  }" ∷
+          "}" ∷ []);
+      tree =
+          parsed ("main" ∷ "out" ∷ "f" ∷ "n" ∷ "d" ∷ "a" ∷ "x" ∷ []) [] 1
+          (func 0 [] (1 ∷ []) 1 (s.Call 1 2 (int 0 ∷ []) (1 ∷ []) ∷ []) ∷
+          func 2 (3 ∷ []) (4 ∷ []) 2
+          (s.If 3 (binary o.Eq (e.Name 3) (int 70))
+          (s.Write 3 4 (e.Name 3) ∷ [])
+          (s.New 4 5 ∷
+          s.Par 5 (s.Call 5 2 (binary o.Add (e.Name 3) (int 1) ∷ []) (5 ∷ []) ∷ []) [] ∷
+          s.Read 6 0 (reads 6 (e.Name 5) ∷ []) (s.Write 6 4 (e.Name 6) ∷ []) ∷ []) ∷ []) ∷ []);
+      told = [];
     }
 
-abbrev pub many_pars_world : World
-many_pars_world = record { program = many_pars; texts = []; main = many_pars_main }
-
-abbrev pub present_sum_main : Func
-present_sum_main =
-    record {
-      name = 0;
-      values = [];
-      dests = (1 ∷ []);
-      body = ((s.Read 2 0 ((record { from = e.RowCount; bound = 2 }) ∷ []) ((s.If 3 (e.Apply o.Eq ((e.Name 2) ∷ (e.Int (pos 0)) ∷ [])) ((s.Write 3 1 (e.Int (pos 0))) ∷ []) ((s.Call 3 3 ((e.Int (pos 0)) ∷ (e.Name 2) ∷ []) (1 ∷ [])) ∷ [])) ∷ [])) ∷ []);
-      line = 1;
-    }
-
-abbrev pub present_sum_sum : Func
-present_sum_sum =
-    record {
-      name = 3;
-      values = (4 ∷ 5 ∷ []);
-      dests = (6 ∷ []);
-      body = ((s.If 7 (e.Apply o.Eq ((e.Apply o.Sub ((e.Name 5) ∷ (e.Name 4) ∷ [])) ∷ (e.Int (pos 1)) ∷ [])) ((s.Read 8 1 ((record { from = e.Cell (e.Name 4) (e.Int (pos 0)); bound = 7 }) ∷ []) ((s.Write 8 6 (e.Name 7)) ∷ [])) ∷ []) ((s.Let 10 8 (e.Apply o.Div ((e.Apply o.Add ((e.Name 4) ∷ (e.Name 5) ∷ [])) ∷ (e.Int (pos 2)) ∷ []))) ∷ (s.New 11 9) ∷ (s.New 12 10) ∷ (s.Par 13 ((s.Call 13 3 ((e.Name 4) ∷ (e.Name 8) ∷ []) (9 ∷ [])) ∷ []) ((s.Call 13 3 ((e.Name 8) ∷ (e.Name 5) ∷ []) (10 ∷ [])) ∷ [])) ∷ (s.Read 14 2 ((record { from = e.Name 9; bound = 7 }) ∷ (record { from = e.Name 10; bound = 11 }) ∷ []) ((s.Write 14 6 (e.Apply o.Add ((e.Name 7) ∷ (e.Name 11) ∷ []))) ∷ [])) ∷ [])) ∷ []);
-      line = 6;
-    }
-
-abbrev pub present_sum : Program
+abbrev pub present_sum : Row
 present_sum =
     record {
-      names = ((codes "main") ∷ (codes "out") ∷ (codes "n") ∷ (codes "sum") ∷ (codes "lo") ∷ (codes "hi") ∷ (codes "d") ∷ (codes "x") ∷ (codes "mid") ∷ (codes "a") ∷ (codes "b") ∷ (codes "y") ∷ []);
-      texts = [];
-      funcs = (present_sum_main ∷ present_sum_sum ∷ []);
-      blocks = 3;
+      text =
+          lines
+          ("func main(; out) {" ∷
+          "  read rows() as n {" ∷
+          "    if n == 0 { write out = 0; } else { call sum(0, n; out); }" ∷
+          "  }" ∷
+          "}" ∷ [])
+          ++ sum_by_halves;
+      tree =
+          parsed ("main" ∷ "out" ∷ "n" ∷ "sum" ∷ "lo" ∷ "hi" ∷ "d" ∷ "x" ∷ "mid" ∷ "a" ∷ "b" ∷ "y" ∷ []) [] 3
+          (func 0 [] (1 ∷ []) 1
+          (s.Read 2 0 (reads 2 e.RowCount ∷ [])
+          (s.If 3 (binary o.Eq (e.Name 2) (int 0))
+          (s.Write 3 1 (int 0) ∷ [])
+          (s.Call 3 3 (int 0 ∷ e.Name 2 ∷ []) (1 ∷ []) ∷ []) ∷ []) ∷ []) ∷
+          func 3 (4 ∷ 5 ∷ []) (6 ∷ []) 6
+          (s.If 7 (binary o.Eq (binary o.Sub (e.Name 5) (e.Name 4)) (int 1))
+          (s.Read 8 1 (reads 7 (e.Cell (e.Name 4) (int 0)) ∷ []) (s.Write 8 6 (e.Name 7) ∷ []) ∷ [])
+          (s.Let 10 8 (binary o.Div (binary o.Add (e.Name 4) (e.Name 5)) (int 2)) ∷
+          s.New 11 9 ∷
+          s.New 12 10 ∷
+          s.Par 13
+          (s.Call 13 3 (e.Name 4 ∷ e.Name 8 ∷ []) (9 ∷ []) ∷ [])
+          (s.Call 13 3 (e.Name 8 ∷ e.Name 5 ∷ []) (10 ∷ []) ∷ []) ∷
+          s.Read 14 2 (reads 7 (e.Name 9) ∷ reads 11 (e.Name 10) ∷ [])
+          (s.Write 14 6 (binary o.Add (e.Name 7) (e.Name 11)) ∷ []) ∷ []) ∷ []) ∷ []);
+      told = [];
     }
 
-abbrev pub present_sum_world : World
-present_sum_world = record { program = present_sum; texts = []; main = present_sum_main }
+abbrev pub too_deep : Row
+too_deep = deep_until 149
 
-abbrev pub too_deep_main : Func
-too_deep_main =
-    record {
-      name = 0;
-      values = [];
-      dests = (1 ∷ []);
-      body = ((s.Call 1 2 ((e.Int (pos 0)) ∷ []) (1 ∷ [])) ∷ []);
-      line = 1;
-    }
+abbrev pub too_deep_read : Row
+too_deep_read = deep_read_until 149
 
-abbrev pub too_deep_f : Func
-too_deep_f =
-    record {
-      name = 2;
-      values = (3 ∷ []);
-      dests = (4 ∷ []);
-      body = ((s.If 3 (e.Apply o.Eq ((e.Name 3) ∷ (e.Int (pos 149)) ∷ [])) ((s.Let 4 5 (e.Name 3)) ∷ (s.Write 5 4 (e.Name 5)) ∷ []) ((s.Call 6 2 ((e.Apply o.Add ((e.Name 3) ∷ (e.Int (pos 1)) ∷ [])) ∷ []) (4 ∷ [])) ∷ [])) ∷ []);
-      line = 2;
-    }
-
-abbrev pub too_deep : Program
-too_deep =
-    record {
-      names = ((codes "main") ∷ (codes "out") ∷ (codes "f") ∷ (codes "n") ∷ (codes "d") ∷ (codes "k") ∷ []);
-      texts = [];
-      funcs = (too_deep_main ∷ too_deep_f ∷ []);
-      blocks = 0;
-    }
-
-abbrev pub too_deep_world : World
-too_deep_world = record { program = too_deep; texts = []; main = too_deep_main }
-
-abbrev pub too_deep_read_main : Func
-too_deep_read_main =
-    record {
-      name = 0;
-      values = [];
-      dests = (1 ∷ []);
-      body = ((s.Call 1 2 ((e.Int (pos 0)) ∷ []) (1 ∷ [])) ∷ []);
-      line = 1;
-    }
-
-abbrev pub too_deep_read_f : Func
-too_deep_read_f =
-    record {
-      name = 2;
-      values = (3 ∷ []);
-      dests = (4 ∷ []);
-      body = ((s.If 3 (e.Apply o.Eq ((e.Name 3) ∷ (e.Int (pos 149)) ∷ [])) ((s.Read 4 0 ((record { from = e.Cell (e.Int (pos 0)) (e.Int (pos 0)); bound = 5 }) ∷ []) ((s.Write 4 4 (e.Name 5)) ∷ [])) ∷ []) ((s.Call 5 2 ((e.Apply o.Add ((e.Name 3) ∷ (e.Int (pos 1)) ∷ [])) ∷ []) (4 ∷ [])) ∷ [])) ∷ []);
-      line = 2;
-    }
-
-abbrev pub too_deep_read : Program
-too_deep_read =
-    record {
-      names = ((codes "main") ∷ (codes "out") ∷ (codes "f") ∷ (codes "n") ∷ (codes "d") ∷ (codes "x") ∷ []);
-      texts = [];
-      funcs = (too_deep_read_main ∷ too_deep_read_f ∷ []);
-      blocks = 1;
-    }
-
-abbrev pub too_deep_read_world : World
-too_deep_read_world = record { program = too_deep_read; texts = []; main = too_deep_read_main }
-
-abbrev pub unknown_name_main : Func
-unknown_name_main =
-    record {
-      name = 0;
-      values = [];
-      dests = (1 ∷ []);
-      body = ((s.Write 1 1 (e.Name 2)) ∷ []);
-      line = 1;
-    }
-
-abbrev pub unknown_name : Program
+abbrev pub unknown_name : Row
 unknown_name =
     record {
-      names = ((codes "main") ∷ (codes "a") ∷ (codes "b") ∷ []);
-      texts = [];
-      funcs = (unknown_name_main ∷ []);
-      blocks = 0;
+      text = lines ("func main(; a) { write a = b; }" ∷ []);
+      tree = parsed ("main" ∷ "a" ∷ "b" ∷ []) [] 0 (func 0 [] (1 ∷ []) 1 (s.Write 1 1 (e.Name 2) ∷ []) ∷ []);
+      told = codes "program line 1 unknown name\n";
     }
 
-abbrev pub rebound_parameter_main : Func
-rebound_parameter_main =
-    record {
-      name = 0;
-      values = [];
-      dests = (1 ∷ []);
-      body = ((s.Let 1 1 (e.Int (pos 1))) ∷ (s.Write 1 1 (e.Int (pos 1))) ∷ []);
-      line = 1;
-    }
-
-abbrev pub rebound_parameter : Program
+abbrev pub rebound_parameter : Row
 rebound_parameter =
     record {
-      names = ((codes "main") ∷ (codes "a") ∷ []);
-      texts = [];
-      funcs = (rebound_parameter_main ∷ []);
-      blocks = 0;
+      text = lines ("func main(; a) { let a = 1; write a = 1; }" ∷ []);
+      tree = parsed ("main" ∷ "a" ∷ []) [] 0 (func 0 [] (1 ∷ []) 1 (s.Let 1 1 (int 1) ∷ s.Write 1 1 (int 1) ∷ []) ∷ []);
+      told = codes "program line 1 rebound\n";
     }
 
-abbrev pub written_again_main : Func
-written_again_main =
-    record {
-      name = 0;
-      values = [];
-      dests = (1 ∷ []);
-      body = ((s.Write 1 1 (e.Int (pos 1))) ∷ (s.Write 1 1 (e.Int (pos 2))) ∷ []);
-      line = 1;
-    }
-
-abbrev pub written_again : Program
+abbrev pub written_again : Row
 written_again =
     record {
-      names = ((codes "main") ∷ (codes "a") ∷ []);
-      texts = [];
-      funcs = (written_again_main ∷ []);
-      blocks = 0;
+      text = lines ("func main(; a) { write a = 1; write a = 2; }" ∷ []);
+      tree =
+          parsed ("main" ∷ "a" ∷ []) [] 0
+          (func 0 [] (1 ∷ []) 1 (s.Write 1 1 (int 1) ∷ s.Write 1 1 (int 2) ∷ []) ∷ []);
+      told = codes "program line 1 written twice\n";
     }
 
-abbrev pub not_written_main : Func
-not_written_main =
-    record {
-      name = 0;
-      values = [];
-      dests = (1 ∷ []);
-      body = [];
-      line = 1;
-    }
-
-abbrev pub not_written : Program
+abbrev pub not_written : Row
 not_written =
     record {
-      names = ((codes "main") ∷ (codes "a") ∷ []);
-      texts = [];
-      funcs = (not_written_main ∷ []);
-      blocks = 0;
+      text = lines ("func main(; a) { }" ∷ []);
+      tree = parsed ("main" ∷ "a" ∷ []) [] 0 (func 0 [] (1 ∷ []) 1 [] ∷ []);
+      told = codes "program line 1 not written\n";
     }
 
-abbrev pub unknown_function_main : Func
-unknown_function_main =
-    record {
-      name = 0;
-      values = [];
-      dests = (1 ∷ []);
-      body = ((s.Call 1 2 [] (1 ∷ [])) ∷ []);
-      line = 1;
-    }
-
-abbrev pub unknown_function : Program
+abbrev pub unknown_function : Row
 unknown_function =
     record {
-      names = ((codes "main") ∷ (codes "a") ∷ (codes "f") ∷ []);
-      texts = [];
-      funcs = (unknown_function_main ∷ []);
-      blocks = 0;
+      text = lines ("func main(; a) { call f(; a); }" ∷ []);
+      tree = parsed ("main" ∷ "a" ∷ "f" ∷ []) [] 0 (func 0 [] (1 ∷ []) 1 (s.Call 1 2 [] (1 ∷ []) ∷ []) ∷ []);
+      told = codes "program line 1 unknown function\n";
     }
 
-abbrev pub too_many_values_main : Func
-too_many_values_main =
-    record {
-      name = 0;
-      values = [];
-      dests = (1 ∷ []);
-      body = ((s.Call 1 2 ((e.Int (pos 1)) ∷ []) (1 ∷ [])) ∷ []);
-      line = 1;
-    }
-
-abbrev pub too_many_values_f : Func
-too_many_values_f =
-    record {
-      name = 2;
-      values = [];
-      dests = (3 ∷ []);
-      body = ((s.Write 1 3 (e.Int (pos 1))) ∷ []);
-      line = 1;
-    }
-
-abbrev pub too_many_values : Program
+abbrev pub too_many_values : Row
 too_many_values =
     record {
-      names = ((codes "main") ∷ (codes "a") ∷ (codes "f") ∷ (codes "d") ∷ []);
-      texts = [];
-      funcs = (too_many_values_main ∷ too_many_values_f ∷ []);
-      blocks = 0;
+      text = lines ("func main(; a) { call f(1; a); } func f(; d) { write d = 1; }" ∷ []);
+      tree =
+          parsed ("main" ∷ "a" ∷ "f" ∷ "d" ∷ []) [] 0
+          (func 0 [] (1 ∷ []) 1 (s.Call 1 2 (int 1 ∷ []) (1 ∷ []) ∷ []) ∷
+          func 2 [] (3 ∷ []) 1 (s.Write 1 3 (int 1) ∷ []) ∷ []);
+      told = codes "program line 1 arity\n";
     }
 
-abbrev pub no_main_f : Func
-no_main_f =
-    record {
-      name = 0;
-      values = [];
-      dests = (1 ∷ []);
-      body = ((s.Write 1 1 (e.Int (pos 1))) ∷ []);
-      line = 1;
-    }
-
-abbrev pub no_main : Program
+abbrev pub no_main : Row
 no_main =
     record {
-      names = ((codes "f") ∷ (codes "d") ∷ []);
-      texts = [];
-      funcs = (no_main_f ∷ []);
-      blocks = 0;
+      text = lines ("func f(; d) { write d = 1; }" ∷ []);
+      tree = parsed ("f" ∷ "d" ∷ []) [] 0 (func 0 [] (1 ∷ []) 1 (s.Write 1 1 (int 1) ∷ []) ∷ []);
+      told = codes "program line 1 no main\n";
     }
 
-abbrev pub main_with_values_main : Func
-main_with_values_main =
-    record {
-      name = 0;
-      values = (1 ∷ []);
-      dests = (2 ∷ []);
-      body = [];
-      line = 1;
-    }
-
-abbrev pub main_with_values : Program
+abbrev pub main_with_values : Row
 main_with_values =
     record {
-      names = ((codes "main") ∷ (codes "v") ∷ (codes "a") ∷ []);
-      texts = [];
-      funcs = (main_with_values_main ∷ []);
-      blocks = 0;
+      text = lines ("func main(v; a) { }" ∷ []);
+      tree = parsed ("main" ∷ "v" ∷ "a" ∷ []) [] 0 (func 0 (1 ∷ []) (2 ∷ []) 1 [] ∷ []);
+      told = codes "program line 1 no main\n";
     }
 
-abbrev pub write_of_itself_main : Func
-write_of_itself_main =
-    record {
-      name = 0;
-      values = [];
-      dests = (1 ∷ []);
-      body = ((s.Write 1 1 (e.Name 1)) ∷ []);
-      line = 1;
-    }
-
-abbrev pub write_of_itself : Program
+abbrev pub write_of_itself : Row
 write_of_itself =
     record {
-      names = ((codes "main") ∷ (codes "a") ∷ []);
-      texts = [];
-      funcs = (write_of_itself_main ∷ []);
-      blocks = 0;
+      text = lines ("func main(; a) { write a = a; }" ∷ []);
+      tree = parsed ("main" ∷ "a" ∷ []) [] 0 (func 0 [] (1 ∷ []) 1 (s.Write 1 1 (e.Name 1) ∷ []) ∷ []);
+      told = codes "program line 1 wrong sort\n";
     }
 
-abbrev pub new_not_written_main : Func
-new_not_written_main =
-    record {
-      name = 0;
-      values = [];
-      dests = (1 ∷ []);
-      body = ((s.If 1 (e.Apply o.Eq ((e.Int (pos 1)) ∷ (e.Int (pos 1)) ∷ [])) ((s.New 1 2) ∷ (s.Write 1 1 (e.Int (pos 1))) ∷ []) ((s.Write 1 1 (e.Int (pos 2))) ∷ [])) ∷ []);
-      line = 1;
-    }
-
-abbrev pub new_not_written : Program
+abbrev pub new_not_written : Row
 new_not_written =
     record {
-      names = ((codes "main") ∷ (codes "a") ∷ (codes "b") ∷ []);
-      texts = [];
-      funcs = (new_not_written_main ∷ []);
-      blocks = 0;
+      text = lines ("func main(; a) { if 1 == 1 { new b; write a = 1; } else { write a = 2; } }" ∷ []);
+      tree =
+          parsed ("main" ∷ "a" ∷ "b" ∷ []) [] 0
+          (func 0 [] (1 ∷ []) 1
+          (s.If 1 (binary o.Eq (int 1) (int 1))
+          (s.New 1 2 ∷ s.Write 1 1 (int 1) ∷ [])
+          (s.Write 1 1 (int 2) ∷ []) ∷ []) ∷ []);
+      told = codes "program line 1 not written\n";
     }
 
-abbrev pub one_name_for_two_reads_main : Func
-one_name_for_two_reads_main =
-    record {
-      name = 0;
-      values = [];
-      dests = (1 ∷ []);
-      body = ((s.Read 1 0 ((record { from = e.Cell (e.Int (pos 0)) (e.Int (pos 0)); bound = 2 }) ∷ (record { from = e.Cell (e.Int (pos 0)) (e.Int (pos 0)); bound = 2 }) ∷ []) ((s.Write 1 1 (e.Name 2)) ∷ [])) ∷ []);
-      line = 1;
-    }
-
-abbrev pub one_name_for_two_reads : Program
+abbrev pub one_name_for_two_reads : Row
 one_name_for_two_reads =
     record {
-      names = ((codes "main") ∷ (codes "a") ∷ (codes "x") ∷ []);
-      texts = [];
-      funcs = (one_name_for_two_reads_main ∷ []);
-      blocks = 1;
+      text = lines ("func main(; a) { read cell(0, 0) as x, cell(0, 0) as x { write a = x; } }" ∷ []);
+      tree =
+          parsed ("main" ∷ "a" ∷ "x" ∷ []) [] 1
+          (func 0 [] (1 ∷ []) 1
+          (s.Read 1 0 (reads 2 (e.Cell (int 0) (int 0)) ∷ reads 2 (e.Cell (int 0) (int 0)) ∷ [])
+          (s.Write 1 1 (e.Name 2) ∷ []) ∷ []) ∷ []);
+      told = codes "program line 1 rebound\n";
     }
 
-abbrev pub one_destination_twice_main : Func
-one_destination_twice_main =
-    record {
-      name = 0;
-      values = [];
-      dests = (1 ∷ []);
-      body = ((s.Call 1 2 [] (1 ∷ 1 ∷ [])) ∷ []);
-      line = 1;
-    }
-
-abbrev pub one_destination_twice_f : Func
-one_destination_twice_f =
-    record {
-      name = 2;
-      values = [];
-      dests = (3 ∷ 4 ∷ []);
-      body = ((s.Write 1 3 (e.Int (pos 1))) ∷ (s.Write 1 4 (e.Int (pos 1))) ∷ []);
-      line = 1;
-    }
-
-abbrev pub one_destination_twice : Program
+abbrev pub one_destination_twice : Row
 one_destination_twice =
     record {
-      names = ((codes "main") ∷ (codes "a") ∷ (codes "f") ∷ (codes "d") ∷ (codes "e") ∷ []);
-      texts = [];
-      funcs = (one_destination_twice_main ∷ one_destination_twice_f ∷ []);
-      blocks = 0;
+      text = lines ("func main(; a) { call f(; a, a); } func f(; d, e) { write d = 1; write e = 1; }" ∷ []);
+      tree =
+          parsed ("main" ∷ "a" ∷ "f" ∷ "d" ∷ "e" ∷ []) [] 0
+          (func 0 [] (1 ∷ []) 1 (s.Call 1 2 [] (1 ∷ 1 ∷ []) ∷ []) ∷
+          func 2 [] (3 ∷ 4 ∷ []) 1 (s.Write 1 3 (int 1) ∷ s.Write 1 4 (int 1) ∷ []) ∷ []);
+      told = codes "program line 1 written twice\n";
     }
 
-abbrev pub right_takes_from_left_main : Func
-right_takes_from_left_main =
-    record {
-      name = 0;
-      values = [];
-      dests = (1 ∷ []);
-      body = ((s.Par 1 ((s.Write 1 1 (e.Int (pos 1))) ∷ []) ((s.New 1 2) ∷ (s.Write 1 2 (e.Name 1)) ∷ [])) ∷ []);
-      line = 1;
-    }
-
-abbrev pub right_takes_from_left : Program
+abbrev pub right_takes_from_left : Row
 right_takes_from_left =
     record {
-      names = ((codes "main") ∷ (codes "a") ∷ (codes "b") ∷ []);
-      texts = [];
-      funcs = (right_takes_from_left_main ∷ []);
-      blocks = 0;
+      text = lines ("func main(; a) { par { write a = 1; } { new b; write b = a; } }" ∷ []);
+      tree =
+          parsed ("main" ∷ "a" ∷ "b" ∷ []) [] 0
+          (func 0 [] (1 ∷ []) 1
+          (s.Par 1 (s.Write 1 1 (int 1) ∷ []) (s.New 1 2 ∷ s.Write 1 2 (e.Name 1) ∷ []) ∷ []) ∷ []);
+      told = codes "program line 1 wrong sort\n";
     }
 
-abbrev pub output_read_first_main : Func
-output_read_first_main =
-    record {
-      name = 0;
-      values = [];
-      dests = (1 ∷ []);
-      body = ((s.Read 1 0 ((record { from = e.Name 1; bound = 2 }) ∷ []) ((s.Write 1 1 (e.Name 2)) ∷ [])) ∷ []);
-      line = 1;
-    }
-
-abbrev pub output_read_first : Program
+abbrev pub output_read_first : Row
 output_read_first =
     record {
-      names = ((codes "main") ∷ (codes "a") ∷ (codes "x") ∷ []);
-      texts = [];
-      funcs = (output_read_first_main ∷ []);
-      blocks = 1;
+      text = lines ("func main(; a) { read a as x { write a = x; } }" ∷ []);
+      tree =
+          parsed ("main" ∷ "a" ∷ "x" ∷ []) [] 1
+          (func 0 [] (1 ∷ []) 1 (s.Read 1 0 (reads 2 (e.Name 1) ∷ []) (s.Write 1 1 (e.Name 2) ∷ []) ∷ []) ∷ []);
+      told = codes "program line 1 read before write\n";
     }
 
-abbrev pub new_read_first_main : Func
-new_read_first_main =
-    record {
-      name = 0;
-      values = [];
-      dests = (1 ∷ []);
-      body = ((s.New 1 2) ∷ (s.Read 1 0 ((record { from = e.Name 2; bound = 3 }) ∷ []) ((s.Write 1 1 (e.Name 3)) ∷ [])) ∷ []);
-      line = 1;
-    }
-
-abbrev pub new_read_first : Program
+abbrev pub new_read_first : Row
 new_read_first =
     record {
-      names = ((codes "main") ∷ (codes "a") ∷ (codes "b") ∷ (codes "x") ∷ []);
-      texts = [];
-      funcs = (new_read_first_main ∷ []);
-      blocks = 1;
+      text = lines ("func main(; a) { new b; read b as x { write a = x; } }" ∷ []);
+      tree =
+          parsed ("main" ∷ "a" ∷ "b" ∷ "x" ∷ []) [] 1
+          (func 0 [] (1 ∷ []) 1
+          (s.New 1 2 ∷ s.Read 1 0 (reads 3 (e.Name 2) ∷ []) (s.Write 1 1 (e.Name 3) ∷ []) ∷ []) ∷ []);
+      told = codes "program line 1 read before write\n";
     }
 
-abbrev pub let_of_itself_main : Func
-let_of_itself_main =
-    record {
-      name = 0;
-      values = [];
-      dests = (1 ∷ []);
-      body = ((s.Let 1 2 (e.Name 2)) ∷ (s.Write 1 1 (e.Name 2)) ∷ []);
-      line = 1;
-    }
-
-abbrev pub let_of_itself : Program
+abbrev pub let_of_itself : Row
 let_of_itself =
     record {
-      names = ((codes "main") ∷ (codes "a") ∷ (codes "x") ∷ []);
-      texts = [];
-      funcs = (let_of_itself_main ∷ []);
-      blocks = 0;
+      text = lines ("func main(; a) { let x = x; write a = x; }" ∷ []);
+      tree =
+          parsed ("main" ∷ "a" ∷ "x" ∷ []) [] 0
+          (func 0 [] (1 ∷ []) 1 (s.Let 1 2 (e.Name 2) ∷ s.Write 1 1 (e.Name 2) ∷ []) ∷ []);
+      told = codes "program line 1 unknown name\n";
     }
 
-abbrev pub unknown_destination_main : Func
-unknown_destination_main =
-    record {
-      name = 0;
-      values = [];
-      dests = (1 ∷ []);
-      body = ((s.Call 1 0 ((e.Name 2) ∷ []) (1 ∷ [])) ∷ []);
-      line = 1;
-    }
-
-abbrev pub unknown_destination : Program
+abbrev pub unknown_destination : Row
 unknown_destination =
     record {
-      names = ((codes "main") ∷ (codes "a") ∷ (codes "c") ∷ []);
-      texts = [];
-      funcs = (unknown_destination_main ∷ []);
-      blocks = 0;
+      text = lines ("func main(; a) { call main(c; a); }" ∷ []);
+      tree =
+          parsed ("main" ∷ "a" ∷ "c" ∷ []) [] 0
+          (func 0 [] (1 ∷ []) 1 (s.Call 1 0 (e.Name 2 ∷ []) (1 ∷ []) ∷ []) ∷ []);
+      told = codes "program line 1 unknown name\n";
     }
 
-abbrev pub two_functions_of_one_name_main : Func
-two_functions_of_one_name_main =
-    record {
-      name = 0;
-      values = [];
-      dests = (1 ∷ []);
-      body = ((s.Write 1 1 (e.Int (pos 1))) ∷ []);
-      line = 1;
-    }
-
-abbrev pub two_functions_of_one_name_main_again : Func
-two_functions_of_one_name_main_again =
-    record {
-      name = 0;
-      values = [];
-      dests = (1 ∷ []);
-      body = [];
-      line = 1;
-    }
-
-abbrev pub two_functions_of_one_name : Program
+abbrev pub two_functions_of_one_name : Row
 two_functions_of_one_name =
     record {
-      names = ((codes "main") ∷ (codes "a") ∷ []);
-      texts = [];
-      funcs = (two_functions_of_one_name_main ∷ two_functions_of_one_name_main_again ∷ []);
-      blocks = 0;
+      text = lines ("func main(; a) { write a = 1; } func main(; a) { }" ∷ []);
+      tree =
+          parsed ("main" ∷ "a" ∷ []) [] 0
+          (func 0 [] (1 ∷ []) 1 (s.Write 1 1 (int 1) ∷ []) ∷
+          func 0 [] (1 ∷ []) 1 [] ∷ []);
+      told = codes "program line 1 rebound\n";
     }
 
-abbrev pub two_parameters_of_one_name_main : Func
-two_parameters_of_one_name_main =
-    record {
-      name = 0;
-      values = [];
-      dests = (1 ∷ []);
-      body = ((s.Write 1 1 (e.Int (pos 1))) ∷ []);
-      line = 1;
-    }
-
-abbrev pub two_parameters_of_one_name_f : Func
-two_parameters_of_one_name_f =
-    record {
-      name = 2;
-      values = (3 ∷ 3 ∷ []);
-      dests = (4 ∷ []);
-      body = [];
-      line = 1;
-    }
-
-abbrev pub two_parameters_of_one_name : Program
+abbrev pub two_parameters_of_one_name : Row
 two_parameters_of_one_name =
     record {
-      names = ((codes "main") ∷ (codes "a") ∷ (codes "f") ∷ (codes "x") ∷ (codes "d") ∷ []);
-      texts = [];
-      funcs = (two_parameters_of_one_name_main ∷ two_parameters_of_one_name_f ∷ []);
-      blocks = 0;
+      text = lines ("func main(; a) { write a = 1; } func f(x, x; d) { }" ∷ []);
+      tree =
+          parsed ("main" ∷ "a" ∷ "f" ∷ "x" ∷ "d" ∷ []) [] 0
+          (func 0 [] (1 ∷ []) 1 (s.Write 1 1 (int 1) ∷ []) ∷
+          func 2 (3 ∷ 3 ∷ []) (4 ∷ []) 1 [] ∷ []);
+      told = codes "program line 1 rebound\n";
     }
 
-abbrev pub branches_in_two_orders_main : Func
-branches_in_two_orders_main =
-    record {
-      name = 0;
-      values = [];
-      dests = (1 ∷ []);
-      body = ((s.New 1 2) ∷ (s.If 1 (e.Bool true) ((s.Write 1 2 (e.Int (pos 1))) ∷ (s.Write 1 1 (e.Int (pos 1))) ∷ []) ((s.Write 1 1 (e.Int (pos 1))) ∷ (s.Write 1 2 (e.Int (pos 2))) ∷ [])) ∷ (s.Read 1 0 ((record { from = e.Name 2; bound = 3 }) ∷ []) []) ∷ []);
-      line = 1;
-    }
-
-abbrev pub branches_in_two_orders : Program
+abbrev pub branches_in_two_orders : Row
 branches_in_two_orders =
     record {
-      names = ((codes "main") ∷ (codes "a") ∷ (codes "b") ∷ (codes "x") ∷ []);
-      texts = [];
-      funcs = (branches_in_two_orders_main ∷ []);
-      blocks = 1;
+      text = lines ("func main(; a) { new b; if true { write b = 1; write a = 1; } else { write a = 1; write b = 2; } read b as x { } }" ∷ []);
+      tree =
+          parsed ("main" ∷ "a" ∷ "b" ∷ "x" ∷ []) [] 1
+          (func 0 [] (1 ∷ []) 1
+          (s.New 1 2 ∷
+          s.If 1 (e.Bool true)
+          (s.Write 1 2 (int 1) ∷ s.Write 1 1 (int 1) ∷ [])
+          (s.Write 1 1 (int 1) ∷ s.Write 1 2 (int 2) ∷ []) ∷
+          s.Read 1 0 (reads 3 (e.Name 2) ∷ []) [] ∷ []) ∷ []);
+      told = [];
     }
 
-abbrev pub write_of_a_value_main : Func
-write_of_a_value_main =
-    record {
-      name = 0;
-      values = [];
-      dests = (1 ∷ []);
-      body = ((s.Let 1 2 (e.Int (pos 1))) ∷ (s.Write 1 2 (e.Int (pos 2))) ∷ []);
-      line = 1;
-    }
-
-abbrev pub write_of_a_value : Program
+abbrev pub write_of_a_value : Row
 write_of_a_value =
     record {
-      names = ((codes "main") ∷ (codes "a") ∷ (codes "x") ∷ []);
-      texts = [];
-      funcs = (write_of_a_value_main ∷ []);
-      blocks = 0;
+      text = lines ("func main(; a) { let x = 1; write x = 2; }" ∷ []);
+      tree =
+          parsed ("main" ∷ "a" ∷ "x" ∷ []) [] 0
+          (func 0 [] (1 ∷ []) 1 (s.Let 1 2 (int 1) ∷ s.Write 1 2 (int 2) ∷ []) ∷ []);
+      told = codes "program line 1 wrong sort\n";
     }
 
-abbrev pub names_leave_scope_main : Func
-names_leave_scope_main =
-    record {
-      name = 0;
-      values = [];
-      dests = (1 ∷ []);
-      body = ((s.If 1 (e.Bool true) ((s.Let 1 2 (e.Int (pos 1))) ∷ (s.Write 1 1 (e.Name 2)) ∷ []) ((s.Let 1 2 (e.Int (pos 2))) ∷ (s.Write 1 1 (e.Name 2)) ∷ [])) ∷ (s.Let 1 2 (e.Int (pos 3))) ∷ []);
-      line = 1;
-    }
-
-abbrev pub names_leave_scope : Program
+abbrev pub names_leave_scope : Row
 names_leave_scope =
     record {
-      names = ((codes "main") ∷ (codes "a") ∷ (codes "x") ∷ []);
-      texts = [];
-      funcs = (names_leave_scope_main ∷ []);
-      blocks = 0;
+      text = lines ("func main(; a) { if true { let x = 1; write a = x; } else { let x = 2; write a = x; } let x = 3; }" ∷ []);
+      tree =
+          parsed ("main" ∷ "a" ∷ "x" ∷ []) [] 0
+          (func 0 [] (1 ∷ []) 1
+          (s.If 1 (e.Bool true)
+          (s.Let 1 2 (int 1) ∷ s.Write 1 1 (e.Name 2) ∷ [])
+          (s.Let 1 2 (int 2) ∷ s.Write 1 1 (e.Name 2) ∷ []) ∷
+          s.Let 1 2 (int 3) ∷ []) ∷ []);
+      told = [];
     }

@@ -22,11 +22,11 @@ impl Write for TakesThree {
 #[test]
 fn a_sink_over_a_writer(rt: HostRuntime) -> Result<(), Fail> {
     let mut sink = StdSink::new(TakesThree(false));
-    assert_eq!(rt; sink.write(b"abcd"), Ok(3));
-    assert_eq!(rt; sink.write(b"d"), Err(SinkFailed));
+    assert!(rt; sink.write(b"abcd") == Ok(3));
+    assert!(rt; sink.write(b"d") == Err(SinkFailed));
     // A device that is always full.
     let full = fs::File::options().write(true).open(&rt, "/dev/full")?;
     let mut sink = StdSink::new(full);
-    assert_eq!(rt; sink.write(b"abcd"), Err(SinkFailed));
+    assert!(rt; sink.write(b"abcd") == Err(SinkFailed));
     Ok(())
 }

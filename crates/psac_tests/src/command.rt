@@ -3,7 +3,6 @@ use psac_command::{
     Mode, TopCall, choose_call, read_bench_request, read_request, read_single_request,
 };
 use std::alloc::Global;
-use std::test::Fail;
 
 fn words_of(alloc: Global, line: &str) -> Result<Vec<String>, NoMemory> {
     let mut words = Vec::new(alloc);
@@ -59,18 +58,22 @@ fn refused(rt: HostRuntime) {
     }
 }
 
-#[test]
-fn read_whole(rt: HostRuntime) -> Result<(), Fail> {
-    let words = words_of(rt.alloc(), "psac session p i --nodes 5 --rows 4")?;
-    let found = read_request(rt.alloc(), words.as_slice())?;
-    assert!(rt; found.map(|asked| asked.mode) == Some(Mode::Session));
-    assert!(rt; found.map(|asked| asked.program) == Some("p"));
-    assert!(rt; found.map(|asked| asked.input) == Some("i"));
-    assert!(rt; found.map(|asked| asked.settings.workers) == Some(4));
-    assert!(rt; found.map(|asked| asked.settings.caps.nodes) == Some(5));
-    assert!(rt; found.map(|asked| asked.settings.caps.mods) == Some(131_072));
-    assert!(rt; found.map(|asked| asked.settings.rows) == Some(4));
-    Ok(())
+// Whether the words of a session are read whole: what is named is set, and the rest as it is where nothing is named.
+fn is_read(alloc: Global) -> bool {
+    let Ok(words) = words_of(alloc, "psac session p i --nodes 5 --rows 4") else {
+        return false;
+    };
+    let Ok(Some(asked)) = read_request(alloc, words.as_slice()) else {
+        return false;
+    };
+    let caps = asked.settings.caps;
+    asked.mode == Mode::Session
+        && asked.program == "p"
+        && asked.input == "i"
+        && asked.settings.workers == 4
+        && caps.nodes == 5
+        && caps.mods == 131_072
+        && asked.settings.rows == 4
 }
 
 fn is_bench(alloc: Global, line: &str) -> Result<bool, NoMemory> {
@@ -115,15 +118,17 @@ fn bench_refused(rt: HostRuntime) {
     }
 }
 
-#[test]
-fn bench_read_whole(rt: HostRuntime) -> Result<(), Fail> {
-    let words = words_of(rt.alloc(), "psac bench p 64x5 --links 7")?;
-    let found = read_bench_request(rt.alloc(), words.as_slice())?;
-    assert!(rt; found.map(|asked| asked.program) == Some("p"));
-    assert!(rt; found.map(|asked| asked.counts.cells) == Some(64));
-    assert!(rt; found.map(|asked| asked.counts.batches) == Some(5));
-    assert!(rt; found.map(|asked| asked.settings.caps.links) == Some(7));
-    Ok(())
+fn is_bench_read(alloc: Global) -> bool {
+    let Ok(words) = words_of(alloc, "psac bench p 64x5 --links 7") else {
+        return false;
+    };
+    let Ok(Some(asked)) = read_bench_request(alloc, words.as_slice()) else {
+        return false;
+    };
+    asked.program == "p"
+        && asked.counts.cells == 64
+        && asked.counts.batches == 5
+        && asked.settings.caps.links == 7
 }
 
 fn is_single(alloc: Global, name: &str, line: &str) -> Result<bool, NoMemory> {
@@ -154,29 +159,41 @@ fn single_refused(rt: HostRuntime) {
     }
 }
 
-#[test]
-fn single_read_whole(rt: HostRuntime) -> Result<(), Fail> {
-    let words = words_of(rt.alloc(), "psac certify p i --links 7")?;
-    let found = read_single_request(rt.alloc(), "certify", words.as_slice())?;
-    assert!(rt; found.map(|asked| asked.mode) == Some(Mode::Once));
-    assert!(rt; found.map(|asked| asked.program) == Some("p"));
-    assert!(rt; found.map(|asked| asked.input) == Some("i"));
-    assert!(rt; found.map(|asked| asked.settings.caps.links) == Some(7));
-    Ok(())
+fn is_single_read(alloc: Global) -> bool {
+    let Ok(words) = words_of(alloc, "psac certify p i --links 7") else {
+        return false;
+    };
+    let Ok(Some(asked)) = read_single_request(alloc, "certify", words.as_slice()) else {
+        return false;
+    };
+    asked.mode == Mode::Once
+        && asked.program == "p"
+        && asked.input == "i"
+        && asked.settings.caps.links == 7
 }
 
-fn is_call(alloc: Global, line: &str, call: TopCall) -> Result<bool, NoMemory> {
-    let words = words_of(alloc, line)?;
-    Ok(choose_call(words.as_slice()) == call)
+#[test]
+fn read_whole(rt: HostRuntime) {
+    let alloc = rt.alloc();
+    assert!(rt; is_read(alloc));
+    assert!(rt; is_bench_read(alloc));
+    assert!(rt; is_single_read(alloc));
+}
+
+fn is_call(alloc: Global, line: &str, call: TopCall) -> bool {
+    match words_of(alloc, line) {
+        Ok(words) => choose_call(words.as_slice()) == call,
+        Err(_) => false,
+    }
 }
 
 #[test]
 fn calls(rt: HostRuntime) {
     let alloc = rt.alloc();
-    assert!(rt; is_call(alloc, "psac once p i", TopCall::Run) == Ok(true));
-    assert!(rt; is_call(alloc, "psac", TopCall::Run) == Ok(true));
-    assert!(rt; is_call(alloc, "psac bench p 4x1", TopCall::Bench) == Ok(true));
-    assert!(rt; is_call(alloc, "psac dump p i j k", TopCall::Dump) == Ok(true));
-    assert!(rt; is_call(alloc, "psac certify p i", TopCall::Certify) == Ok(true));
-    assert!(rt; is_call(alloc, "psac watch p", TopCall::Watch) == Ok(true));
+    assert!(rt; is_call(alloc, "psac once p i", TopCall::Run));
+    assert!(rt; is_call(alloc, "psac", TopCall::Run));
+    assert!(rt; is_call(alloc, "psac bench p 4x1", TopCall::Bench));
+    assert!(rt; is_call(alloc, "psac dump p i j k", TopCall::Dump));
+    assert!(rt; is_call(alloc, "psac certify p i", TopCall::Certify));
+    assert!(rt; is_call(alloc, "psac watch p", TopCall::Watch));
 }

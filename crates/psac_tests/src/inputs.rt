@@ -6,7 +6,6 @@ use psac_inputs::{
 };
 use psac_ops::Plain;
 use std::alloc::Global;
-use std::test::Fail;
 
 // Whether a cell has the value.
 fn holds(grid: &Grid, row: u32, col: u32, value: Plain) -> bool {
@@ -56,18 +55,31 @@ fn csv_fault(alloc: Global, input: &[u8], texts: &mut Interner) -> Option<InputF
     load_csv(alloc, input, texts).err()
 }
 
-#[test]
-fn cells(rt: HostRuntime) -> Result<(), Fail> {
-    let mut grid = Grid::new(rt.alloc(), 2, 3)?;
+fn lines_fault(alloc: Global, input: &[u8], texts: &mut Interner) -> Option<InputFault> {
+    load_lines(alloc, input, texts).err()
+}
+
+// Whether a grid of two rows and three columns keeps what is put into its last cell.
+fn keeps(alloc: Global) -> bool {
+    let Ok(mut grid) = Grid::new(alloc, 2, 3) else {
+        return false;
+    };
     grid.put(1, 2, Plain::Int(5));
-    assert!(rt; grid.get(1, 2) == Plain::Int(5));
-    assert!(rt; grid.get(0, 0) == Plain::Nil);
-    assert!(rt; (grid.opened(), grid.room(), grid.rows(), grid.cols()) == (2, 2, 2, 3));
-    Ok(())
+    holds(&grid, 1, 2, Plain::Int(5))
+        && holds(&grid, 0, 0, Plain::Nil)
+        && grid.opened() == 2
+        && grid.room() == 2
+        && grid.rows() == 2
+        && grid.cols() == 3
 }
 
 #[test]
-fn records(rt: HostRuntime) -> Result<(), Fail> {
+fn cells(rt: HostRuntime) {
+    assert!(rt; keeps(rt.alloc()));
+}
+
+#[test]
+fn records(rt: HostRuntime) {
     let alloc = rt.alloc();
     assert!(rt; csv_gives(alloc, b"2,c\n1,\"a,b\"", 2, 2, b"a,b"));
     assert!(rt; csv_gives(alloc, b"", 0, 0, b""));
@@ -76,20 +88,18 @@ fn records(rt: HostRuntime) -> Result<(), Fail> {
     assert!(rt; csv_gives(alloc, b"a\"b\n", 1, 1, b"a\"b"));
     assert!(rt; csv_gives(alloc, b"a\rb\r", 2, 1, b"b"));
     assert!(rt; csv_gives(alloc, b"\"a\"\"b\"c", 1, 1, b"a\"bc"));
-    Ok(())
 }
 
 #[test]
-fn marks(rt: HostRuntime) -> Result<(), Fail> {
+fn marks(rt: HostRuntime) {
     let alloc = rt.alloc();
     // A byte order mark at the start of records is taken off; lines keep it, as part of the first one.
     assert!(rt; csv_gives(alloc, b"\xEF\xBB\xBFa", 1, 1, b"a"));
     assert!(rt; lines_give(alloc, b"\xEF\xBB\xBFa", 1, b"\xEF\xBB\xBFa"));
-    Ok(())
 }
 
 #[test]
-fn lines(rt: HostRuntime) -> Result<(), Fail> {
+fn lines(rt: HostRuntime) {
     let alloc = rt.alloc();
     assert!(rt; lines_give(alloc, b"", 0, b""));
     assert!(rt; lines_give(alloc, b"1\n\n", 2, b""));
@@ -97,24 +107,23 @@ fn lines(rt: HostRuntime) -> Result<(), Fail> {
     assert!(rt; lines_give(alloc, b"a,b", 1, b"a,b"));
     assert!(rt; lines_give(alloc, b"9223372036854775808", 1, b"9223372036854775808"));
     assert!(rt; split_line(b"").is_none());
-    Ok(())
+}
+
+// Whether the faults of records and lines name their place, and what was read before them stays in the list.
+fn are_placed(alloc: Global) -> bool {
+    let Ok(mut texts) = Interner::new(alloc) else {
+        return false;
+    };
+    csv_fault(alloc, b"1,2\n3,4\n5\n", &mut texts) == Some(InputFault::Ragged { at: 3 })
+        && csv_fault(alloc, b"1\n\xFF,2\n", &mut texts) == Some(InputFault::Ragged { at: 2 })
+        && csv_fault(alloc, b"a\n\xFF\n", &mut texts) == Some(InputFault::Utf8 { at: 2 })
+        && lines_fault(alloc, b"b\n\xFF", &mut texts) == Some(InputFault::Utf8 { at: 2 })
+        && texts.len() == 2
 }
 
 #[test]
-fn faults(rt: HostRuntime) -> Result<(), Fail> {
-    let alloc = rt.alloc();
-    let mut texts = Interner::new(alloc)?;
-    assert!(rt;
-        csv_fault(alloc, b"1,2\n3,4\n5\n", &mut texts) == Some(InputFault::Ragged { at: 3 })
-    );
-    assert!(rt; csv_fault(alloc, b"1\n\xFF,2\n", &mut texts) == Some(InputFault::Ragged { at: 2 }));
-    assert!(rt; csv_fault(alloc, b"a\n\xFF\n", &mut texts) == Some(InputFault::Utf8 { at: 2 }));
-    assert!(rt;
-        load_lines(alloc, b"b\n\xFF", &mut texts).err() == Some(InputFault::Utf8 { at: 2 })
-    );
-    // What was read before the faults stays in the list.
-    assert!(rt; texts.len() == 2);
-    Ok(())
+fn faults(rt: HostRuntime) {
+    assert!(rt; are_placed(rt.alloc()));
 }
 
 // The fields `a1`, `a2` and so on, one on each line.
@@ -128,35 +137,75 @@ fn numbered(alloc: Global, count: i64) -> Result<Vec<u8>, NoMemory> {
     Ok(text)
 }
 
-#[test]
-fn limits(rt: HostRuntime) -> Result<(), Fail> {
-    let alloc = rt.alloc();
-    let mut texts = Interner::new(alloc)?;
-    let ones = vec![in alloc; b'\n'; 65_537]?;
-    assert!(rt;
-        load_lines(alloc, &ones, &mut texts).err() == Some(InputFault::Cells { at: 65_537 })
-    );
-    let many = numbered(alloc, 65_537)?;
-    let mut other = Interner::new(alloc)?;
-    // Both limits are passed at this record.
-    assert!(rt; csv_fault(alloc, &many, &mut other) == Some(InputFault::Cells { at: 65_537 }));
-    let full = numbered(alloc, 65_536)?;
-    assert!(rt; csv_fault(alloc, &full, &mut texts) == Some(InputFault::Texts { at: 65_536 }));
-    Ok(())
+// Whether records of so many different texts are refused so.
+fn csv_limit(alloc: Global, count: i64, fault: InputFault) -> bool {
+    let Ok(mut texts) = Interner::new(alloc) else {
+        return false;
+    };
+    match numbered(alloc, count) {
+        Ok(input) => csv_fault(alloc, &input, &mut texts) == Some(fault),
+        Err(_) => false,
+    }
+}
+
+// Whether lines of one text are refused where they are one too many.
+fn lines_limit(alloc: Global) -> bool {
+    let Ok(mut texts) = Interner::new(alloc) else {
+        return false;
+    };
+    match vec![in alloc; b'\n'; 65_537] {
+        Ok(input) => {
+            lines_fault(alloc, &input, &mut texts) == Some(InputFault::Cells { at: 65_537 })
+        }
+        Err(_) => false,
+    }
 }
 
 #[test]
-fn texts(rt: HostRuntime) -> Result<(), Fail> {
-    let mut texts = Interner::new(rt.alloc())?;
-    assert!(rt; texts.is_empty());
+fn limits(rt: HostRuntime) {
+    let alloc = rt.alloc();
+    assert!(rt; lines_limit(alloc));
+    // Both limits are passed at this record.
+    assert!(rt; csv_limit(alloc, 65_537, InputFault::Cells { at: 65_537 }));
+}
+
+// Whether the text behind the most that there can be is refused.
+fn is_one_text_too_many(alloc: Global) -> bool {
+    let Ok(mut texts) = Interner::new(alloc) else {
+        return false;
+    };
+    match numbered(alloc, 65_536) {
+        Ok(input) => {
+            texts.add(b"").is_ok()
+                && csv_fault(alloc, &input, &mut texts) == Some(InputFault::Texts { at: 65_536 })
+        }
+        Err(_) => false,
+    }
+}
+
+#[test]
+fn limit_of_texts(rt: HostRuntime) {
+    assert!(rt; is_one_text_too_many(rt.alloc()));
+}
+
+fn are_listed(alloc: Global) -> bool {
+    let Ok(mut texts) = Interner::new(alloc) else {
+        return false;
+    };
+    let empty = texts.is_empty();
     let first = texts.add(b"x");
-    assert!(rt; texts.add(b"y").is_ok());
-    assert!(rt; texts.add(b"x") == first);
-    assert!(rt; texts.add(b"\xFF") == Err(TextFault::Utf8));
-    assert!(rt; texts.field(b"-1") == Ok(Plain::Int(-1)));
-    assert!(rt; texts.field(b"007").is_ok());
-    assert!(rt; texts.len() == 3);
-    Ok(())
+    empty
+        && texts.add(b"y").is_ok()
+        && texts.add(b"x") == first
+        && texts.add(b"\xFF") == Err(TextFault::Utf8)
+        && texts.field(b"-1") == Ok(Plain::Int(-1))
+        && texts.field(b"007").is_ok()
+        && texts.len() == 3
+}
+
+#[test]
+fn texts(rt: HostRuntime) {
+    assert!(rt; are_listed(rt.alloc()));
 }
 
 // Stages two numbers of rows in turn, and puts what is staged into the grid.
@@ -170,44 +219,83 @@ fn put_rows(grid: &mut Grid, batch: &mut Batch, first: u32, then: u32) -> Result
     Ok(())
 }
 
-#[test]
-fn rows_that_go(rt: HostRuntime) -> Result<(), Fail> {
-    let alloc = rt.alloc();
-    let mut grid = Grid::new(alloc, 2, 1)?.widen(4)?;
+// A grid of two rows with room for four.
+fn wide(alloc: Global) -> Option<Grid> {
+    let grid = Grid::new(alloc, 2, 1).ok()?;
+    grid.widen(4).ok()
+}
+
+// Whether a row that goes and comes back is empty.
+fn is_emptied(alloc: Global) -> bool {
+    let Some(mut grid) = wide(alloc) else {
+        return false;
+    };
+    if grid.rows() < 2 || grid.cols() < 1 {
+        return false;
+    }
     grid.put(1, 0, Plain::Int(2));
-    let mut batch = Batch::new(alloc, &grid)?;
-    assert!(rt; put_rows(&mut grid, &mut batch, 1, 3).is_ok());
-    assert!(rt; grid.rows() == 3);
-    assert!(rt; holds(&grid, 1, 0, Plain::Nil));
-    Ok(())
+    let Ok(mut batch) = Batch::new(alloc, &grid) else {
+        return false;
+    };
+    put_rows(&mut grid, &mut batch, 1, 3).is_ok()
+        && grid.rows() == 3
+        && holds(&grid, 1, 0, Plain::Nil)
+}
+
+// Whether what may be staged in a grid is, and what may not be isn't.
+fn is_staged(alloc: Global) -> bool {
+    let Some(grid) = wide(alloc) else {
+        return false;
+    };
+    let Ok(mut batch) = Batch::new(alloc, &grid) else {
+        return false;
+    };
+    batch.set(2, 0, Plain::Int(7)) == Err(BatchFault::Range)
+        && batch.rows(5) == Err(BatchFault::Range)
+        && batch.rows(3).is_ok()
+        && batch.set(2, 0, Plain::Int(7)).is_ok()
+        && batch.set(0, 0, Plain::Nil).is_ok()
+        && batch.staged_rows() == 3
+        && batch.base_rows() == 2
+        && batch.len() == 2
 }
 
 #[test]
-fn staged(rt: HostRuntime) -> Result<(), Fail> {
+fn staged(rt: HostRuntime) {
     let alloc = rt.alloc();
-    let grid = Grid::new(alloc, 2, 1)?.widen(4)?;
-    let mut batch = Batch::new(alloc, &grid)?;
-    assert!(rt; batch.set(2, 0, Plain::Int(7)) == Err(BatchFault::Range));
-    assert!(rt; batch.rows(5) == Err(BatchFault::Range));
-    assert!(rt; batch.rows(3).is_ok());
-    assert!(rt; batch.set(2, 0, Plain::Int(7)).is_ok());
-    assert!(rt; batch.set(0, 0, Plain::Nil).is_ok());
-    assert!(rt; (batch.staged_rows(), batch.base_rows(), batch.len()) == (3, 2, 2));
-    Ok(())
+    assert!(rt; is_emptied(alloc));
+    assert!(rt; is_staged(alloc));
 }
 
-#[test]
-fn netting(rt: HostRuntime) -> Result<(), Fail> {
-    let alloc = rt.alloc();
-    let mut grid = Grid::new(alloc, 2, 1)?;
-    let mut batch = Batch::new(alloc, &grid)?;
-    assert!(rt; batch.set(0, 0, Plain::Int(1)).is_ok());
-    assert!(rt; batch.set(1, 0, Plain::Nil).is_ok());
+// Whether a batch drops what changes nothing, and then all.
+fn is_netted(alloc: Global) -> bool {
+    let Ok(grid) = Grid::new(alloc, 2, 1) else {
+        return false;
+    };
+    let Ok(mut batch) = Batch::new(alloc, &grid) else {
+        return false;
+    };
+    if batch.set(0, 0, Plain::Int(1)).is_err() || batch.set(1, 0, Plain::Nil).is_err() {
+        return false;
+    }
     batch.net(&grid);
-    assert!(rt; batch.len() == 1);
+    let left = batch.len();
     batch.clear(&grid);
-    assert!(rt; batch.len() == 0);
+    left == 1 && batch.len() == 0
+}
+
+// Whether a grid gives up its rows.
+fn is_cut(alloc: Global) -> bool {
+    let Ok(mut grid) = Grid::new(alloc, 2, 1) else {
+        return false;
+    };
     grid.set_rows(0);
-    assert!(rt; grid.rows() == 0);
-    Ok(())
+    grid.rows() == 0
+}
+
+#[test]
+fn netting(rt: HostRuntime) {
+    let alloc = rt.alloc();
+    assert!(rt; is_netted(alloc));
+    assert!(rt; is_cut(alloc));
 }
