@@ -20,6 +20,7 @@ pub mod Fitting
 pub mod Moving
 pub mod Leaving
 pub mod Looking
+pub mod Handing
 pub mod Passes
 pub mod Reading
 pub mod Leading

@@ -55,6 +55,9 @@ use Rattle.psac_traced.proofs.Holds.{HoldsHere}
 use Rattle.psac_trace.specs.Rights.{In, held}
 use Rattle.psac_trace.specs.Raising.{Rewrote, Calm, Only, puts, RaisesBy, Warns, Raisable, olds_after}
 use Rattle.psac_trace.specs.Running.{WarnsAct}
+use Rattle.psac_trace.specs.declared.world.World.{World}
+use Rattle.psac_trace.specs.Worlds.{setting_of, BeginsIn, LeavesIn, LeavesActIn}
+use Rattle.psac_trace.proofs.Handing.{Site, Stepped, Opened}
 use Rattle.psac_trace.specs.Raising.{Roused}
 use Rattle.psac_traced.specs.Holds.{EachOf, Holds}
 use Rattle.psac_slots.proofs.Pairs.{member_cases}
@@ -170,7 +173,9 @@ halt_looks before t p q begun k (halt.Fault _ _) x l = absurd x
 halt_looks before t p q begun k (halt.Full which at) x l = subst (λ z. Looks before p.values.knows z k) (sym x.same) l
 halt_looks before t p q begun k halt.NoMemory x l = subst (λ z. Looks before p.values.knows z k) (sym x.same) l
 
-module _ (w : Setting Handle) (funcs : List Func) (room : ℕ) (deep : Tracing Handle) (first : Cuts Handle) (none : StartsEmpty first) (short : Shortens deep first) (holding : HoldsHere w funcs deep) (olds : List Handle) (t : Tables) (a : Action Handle) (rest : List Stmt) (env : Env Handle) (par : Option Handle) (p : Pass) where
+module _ (at : Site) (a : Action Handle) where
+  open at use {w, funcs, room, deep, first, none, short, holding, olds, t, rest, env, par, p}
+
   act_of : (q : Pass) (e : Ended Kept) → Does (made_below par) t p q e → RaisesBy olds p q e → Looks (looks_for a) p.values.knows q.values.knows (what e) → TellsAct w room deep first a rest env p.values.knows q.values.knows (bared e) → LeavesAct w room deep first olds t a rest env par p q e
   act_of q e d r l h = record { made = d.made; moves = d.moves; all = d.all; room = d.room; full = d.full; raises = r; words = d.words; looks = l; tells = h }
 
@@ -406,7 +411,9 @@ module _ (w : Setting Handle) (funcs : List Func) (room : ℕ) (deep : Tracing H
             (tells_put w room deep first rest env p1.values.knows m x (three_of ws) three tidy_on q.values.knows (bared e) put_mine (subst (λ z. Stays z q.values.knows) wr k.moves.stays) (subst (λ z. Tells w deep first rest env z q.values.knows (bared e)) wr k.tells)))))
 
 -- behind an inner part, whose statement has this node
-module _ (w : Setting Handle) (funcs : List Func) (deep : Tracing Handle) (first : Cuts Handle) (olds : List Handle) (t : Tables) (rest : List Stmt) (env : Env Handle) (par : Option Handle) (node : Handle) (p u : Pass) where
+module _ (at : Site) (node : Handle) (u : Pass) where
+  open at use {w, funcs, deep, first, olds, t, rest, env, par, p}
+
   part_words : (k : Kept) → Rewrote p.values.knows u.values.knows (puts k) → Rewrote p.values.knows u.values.knows (puts (S node k E))
   part_words k = subst (Rewrote p.values.knows u.values.knows) (sym (append_none (puts k)))
 
@@ -461,20 +468,24 @@ good_is : (k c : Kept) → (let e : Ended Kept = Good k in e ≡ Good c) → k �
 good_is k c h = ap (λ (e : Ended Kept). what e) h
 
 -- if and call
-module _ (w : Setting Handle) (funcs : List Func) (room : ℕ) (deep : Tracing Handle) (first : Cuts Handle) (none : StartsEmpty first) (short : Shortens deep first) (holding : HoldsHere w funcs deep) (olds : List Handle) (t : Tables) (rest : List Stmt) (env : Env Handle) (par : Option Handle) (p : Pass) where
+module _ (at : Site) where
+  open at use {w, funcs, room, deep, first, none, short, holding, olds, t, rest, env, par, p}
+
   abbrev v : ValueView
   v = p.values.knows
 
   module _ (body : List Stmt) (inner : Env Handle) (b : BeginsAct w funcs olds t (Body body inner) rest env par p) where
     pub leaves_no_inner : (q : Pass) (node : Handle) (h : Halt) → HaltsFor t p q (nodes_only ((node, par) ∷ [])) h → LeavesAct w room deep first olds t (Body body inner) rest env par p q (halted (S node E E) h)
     leaves_no_inner q node h x =
-        act_of w funcs room deep first none short holding olds t (Body body inner) rest env par p q (halted (S node E E) h)
+        act_of at (Body body inner) q (halted (S node E E) h)
         (does_want (made_below par) t p q (S node E E) (nodes_only ((node, par) ∷ [])) h refl refl refl refl x)
         (halt_raises olds t p q (nodes_only ((node, par) ∷ [])) (S node E E) h x)
         (halt_looks 0 t p q (nodes_only ((node, par) ∷ [])) (S node E E) h x (looks_none v v (S node E E) refl refl))
         (halt_tells_act w room deep first (Body body inner) rest env t p q (nodes_only ((node, par) ∷ [])) (S node E E) h b.room (λ base. at_body same_handle room deep first rest env base body inner rec.E 0 (record { run = λ heap wi. none body inner heap })) x)
 
-    module _ (node : Handle) (p1 : Pass) (op : Opens t p p1 (nodes_only ((node, par) ∷ []))) (kn : Keeps p1.marks.knows node) where
+    module _ (s : Stepped at) where
+      open s use {node, pass as p1, opens as op, keeps as kn}
+
       pub begins_inner : Begins w funcs olds t body inner (Some node) p1
       begins_inner = record { of = op.moves.of; checked = b.checked; room = op.room; tidy = op.moves.stays.tidy; fit = op.moves.fit; parent = kn; needs = subst (Needs w body inner) (sym op.same) (needs_body w room deep first rest env v body inner b.needs); warns = inner_warns }
         where
@@ -548,7 +559,7 @@ module _ (w : Setting Handle) (funcs : List Func) (room : ℕ) (deep : Tracing H
             pick (Other k why) r told past = tt
 
         pub leaves_inner : (q : Pass) (o : Ended Kept) → LeavesAfter w deep first olds t node e rest env u q o → LeavesAct w room deep first olds t (Body body inner) rest env par p q o
-        leaves_inner q o h = act_of w funcs room deep first none short holding olds t (Body body inner) rest env par p q o (does_after w funcs deep first olds t rest env par node p u e q o inner_does h) (raises_after w funcs deep first olds t rest env par node p u inner_made inner_moves (calm_then olds p p1 u (λ z y. ap (times y) op.quiet) (calm_by olds p1 u l.moves.marks e l.raises)) e q o inner_only inner_behind h) (looks_after w deep first olds t node rest env 0 v u q e o (looks_from v p1.values.knows u.values.knows (what e) op.same l.looks) h) (pick e inner_told h)
+        leaves_inner q o h = act_of at (Body body inner) q o (does_after at node u e q o inner_does h) (raises_after at node u inner_made inner_moves (calm_then olds p p1 u (λ z y. ap (times y) op.quiet) (calm_by olds p1 u l.moves.marks e l.raises)) e q o inner_only inner_behind h) (looks_after w deep first olds t node rest env 0 v u q e o (looks_from v p1.values.knows u.values.knows (what e) op.same l.looks) h) (pick e inner_told h)
           where
             pick : (e : Ended Kept) → Tells w deep first body inner v u.values.knows (bared e) → LeavesAfter w deep first olds t node e rest env u q o → TellsAct w room deep first (Body body inner) rest env v q.values.knows (bared o)
             pick (Good k) told h =
@@ -581,7 +592,7 @@ module _ (w : Setting Handle) (funcs : List Func) (room : ℕ) (deep : Tracing H
 
       pub leaves_no_block : (q : Pass) (node : Handle) (h : Halt) → HaltsFor t p q (read_made par node r) h → LeavesAct w room deep first olds t (Block number reads body inner) rest env par p q (halted (S node (R r E) E) h)
       leaves_no_block q node h x =
-          act_of w funcs room deep first none short holding olds t (Block number reads body inner) rest env par p q (halted (S node (R r E) E) h)
+          act_of at (Block number reads body inner) q (halted (S node (R r E) E) h)
           (does_want (made_below par) t p q (S node (R r E) E) (read_made par node r) h refl refl refl refl x)
           (halt_raises olds t p q (read_made par node r) (S node (R r E) E) h x)
           (halt_looks (length reads) t p q (read_made par node r) (S node (R r E) E) h x (begun_looks node))
@@ -602,18 +613,20 @@ module _ (w : Setting Handle) (funcs : List Func) (room : ℕ) (deep : Tracing H
             tells = begun_tells w room deep first (Block number reads body inner) rest env v p1.values.knows (rec.S (bare (R r E)) rec.E) None b.room.0 op.same begun_block;
           }
 
-    module _ (node : Handle) (r : Reading) (p1 : Pass) (op : Opens t p p1 (read_made par node r)) (kn : Keeps p1.marks.knows node) (kr : Keeps p1.marks.knows r.node) where
+    module _ (s : Opened at level number reads) where
+      open s use {node, reading as r, pass as p1, opens as op, keeps as kn, inside as kr, began}
+
       -- the links that were entered are of what the base has
-      read_linked : Began level number env reads r → (base : Heap) → EachOf (λ m x. held base m ≡ Some x) reads → (s : Stands) → Member s (read_made par node r).links → In base s.of
-      read_linked began base saw s i =
+      read_linked : (base : Heap) → EachOf (λ m x. held base m ≡ Some x) reads → (s : Stands) → Member s (read_made par node r).links → In base s.of
+      read_linked base saw s i =
           let ls = map (stands r.node) r.reads in
           seen_in base r.node r.reads (subst (EachOf (λ m x. held base m ≡ Some x)) (sym began.reads) saw) s (subst (Member s) (append_none (ls ++ []) ∙ append_none ls) i)
 
-      pub begins_block : Began level number env reads r → Begins w funcs olds t body inner (Some r.node) p1
-      begins_block began = record { of = op.moves.of; checked = b.checked; room = op.room; tidy = op.moves.stays.tidy; fit = op.moves.fit; parent = kr; needs = subst (Needs w body inner) (sym op.same) (needs_block w room deep first rest env v number reads body inner b.needs); warns = block_warns }
+      pub begins_block : Begins w funcs olds t body inner (Some r.node) p1
+      begins_block = record { of = op.moves.of; checked = b.checked; room = op.room; tidy = op.moves.stays.tidy; fit = op.moves.fit; parent = kr; needs = subst (Needs w body inner) (sym op.same) (needs_block w room deep first rest env v number reads body inner b.needs); warns = block_warns }
         where
           block_warns : Warns w olds body inner p1
-          block_warns = let n = b.warns in warns_inner w olds t rest env p p1 (read_made par node r) body inner n.base n.st n.mid n.end n.meets n.goes b.tidy op.moves op.same (read_linked began n.base n.saw) n.aged n.may
+          block_warns = let n = b.warns in warns_inner w olds t rest env p p1 (read_made par node r) body inner n.base n.st n.mid n.end n.meets n.goes b.tidy op.moves op.same (read_linked n.base n.saw) n.aged n.may
 
       module _ (u : Pass) (e f : Ended Kept) (fo : Follows (then_ended (R r) e) f) (l : Leaves w deep first olds t body inner (Some r.node) p1 u e) where
         block_kept : Stays v u.values.knows
@@ -645,16 +658,16 @@ module _ (w : Setting Handle) (funcs : List Func) (room : ℕ) (deep : Tracing H
         stop_then (Other k why) c i n h = absurd cc
 
         -- the links that were entered are of nothing that the block wrote
-        unread : Began level number env reads r → (e : Ended (Rec Handle)) (k : Kept) → Told deep first body b.warns.goes.names b.warns.goes.end.unwritten inner v u.values.knows b.warns.base e → Fresh (rec.writes (bare k)) b.warns.base → ((m : Handle) (x : Plain) → Member (m, x) (puts k) → Has u.values.knows m) → (m : Handle) (x : Plain) → Member m olds → Member (m, x) (puts k) → (s : Stands) → Member s (read_made par node r).links → s.of.slot ≢ m.slot
-        unread began e k told fresh owned m x o i s j =
+        unread : (e : Ended (Rec Handle)) (k : Kept) → Told deep first body b.warns.goes.names b.warns.goes.end.unwritten inner v u.values.knows b.warns.base e → Fresh (rec.writes (bare k)) b.warns.base → ((m : Handle) (x : Plain) → Member (m, x) (puts k) → Has u.values.knows m) → (m : Handle) (x : Plain) → Member m olds → Member (m, x) (puts k) → (s : Stands) → Member s (read_made par node r).links → s.of.slot ≢ m.slot
+        unread e k told fresh owned m x o i s j =
             let n = b.warns in
             let g = n.goes in
-            let a = read_linked began n.base n.saw s j in
+            let a = read_linked n.base n.saw s j in
             let sees = told_within deep first body g.names g.end.unwritten inner v u.values.knows n.base e told in
             slots_apart u.values.knows l.moves.stays.tidy s.of m a.0 (sees s.of a.0 a.1) (owned m x i) (λ h. in_and_none n.base m (subst (In n.base) h a) (fresh m (puts_in k m x i)))
 
-        block_only : Began level number env reads r → (c : Kept) (i : FaultKind) (n : ℕ) → f ≡ Fault c i n → Only olds p u (puts c)
-        block_only began c i m is =
+        block_only : (c : Kept) (i : FaultKind) (n : ℕ) → f ≡ Fault c i n → Only olds p u (puts c)
+        block_only c i m is =
             let n = b.warns in
             let g = n.goes in
             let whole = stop_then e c i m (subst (Follows (then_ended (R r) e)) is fo) in
@@ -662,10 +675,10 @@ module _ (w : Setting Handle) (funcs : List Func) (room : ℕ) (deep : Tracing H
             let told = subst (λ z. Tells w deep first body inner v u.values.knows (bared z)) whole.1 block_told n.base g.names g.end g.meets g.ready in
             let words = subst (λ z. Rewrote p1.values.knows u.values.knows (puts (what z))) whole.1 l.words in
             subst (λ z. Only olds p u (puts z)) whole.2
-            (only_before olds t p p1 u (read_made par node r) l.made (puts k) op.moves l.moves (raises_opened olds t p p1 (read_made par node r) op) (unread began (Fault (bare k) i m) k told told.0.fresh words.owned) (subst (RaisesBy olds p1 u) whole.1 l.raises))
+            (only_before olds t p p1 u (read_made par node r) l.made (puts k) op.moves l.moves (raises_opened olds t p p1 (read_made par node r) op) (unread (Fault (bare k) i m) k told told.0.fresh words.owned) (subst (RaisesBy olds p1 u) whole.1 l.raises))
 
-        block_behind : Began level number env reads r → (c : Kept) → f ≡ Good c → Behind w olds rest env p u all_made c
-        block_behind began c is =
+        block_behind : (c : Kept) → f ≡ Good c → Behind w olds rest env p u all_made c
+        block_behind c is =
             let n = b.warns in
             let g = n.goes in
             let whole = good_then e c (subst (Follows (then_ended (R r) e)) is fo) in
@@ -683,16 +696,16 @@ module _ (w : Setting Handle) (funcs : List Func) (room : ℕ) (deep : Tracing H
               meets = n.meets;
               ready = seq_ready w room deep first rest env v (Block number reads body inner) u.values.knows block_kept n.base n.st n.mid n.end n.meets n.ready g.left g.within g.settles (rec.writes (bare k)) (inner_moved w room deep first rest env v n.st n.mid n.base body inner g u.values.knows (rec.writes (bare k)) told.1);
               begun = told.0.fresh;
-              raised = raises_before olds t p p1 u (read_made par node r) l.made (puts k) op.moves l.moves (raises_opened olds t p p1 (read_made par node r) op) (unread began (Good (bare k)) k told told.0.fresh ru.owned) ru;
+              raised = raises_before olds t p p1 u (read_made par node r) l.made (puts k) op.moves l.moves (raises_opened olds t p p1 (read_made par node r) op) (unread (Good (bare k)) k told told.0.fresh ru.owned) ru;
               linked = λ s i. ⊎_elim
-                  (λ (j : Member s (read_made par node r).links). in_back (rec.writes (bare k)) n.base s.of (read_linked began n.base n.saw s j))
+                  (λ (j : Member s (read_made par node r).links). in_back (rec.writes (bare k)) n.base s.of (read_linked n.base n.saw s j))
                   (λ (j : Member s l.made.links). links_in n.base k holds s (subst (λ (z : Made). Member s z.links) all j))
                   (member_cases s (read_made par node r).links l.made.links i);
               may = λ m o z. n.may m o (target_back n.st n.mid g.left n.end.unwritten env m g.settles g.within z);
             })
 
-        pub begins_after_block : Began level number env reads r → BeginsAfter w funcs olds t node f rest env u
-        begins_after_block began = pick e f fo l.room block_told (block_behind began)
+        pub begins_after_block : BeginsAfter w funcs olds t node f rest env u
+        begins_after_block = pick e f fo l.room block_told (block_behind)
           where
             pick : (e f : Ended Kept) → Follows (then_ended (R r) e) f → RoomAfter u e → Tells w deep first body inner v u.values.knows (bared e) → ((c : Kept) → f ≡ Good c → Behind w olds rest env p u all_made c) → BeginsAfter w funcs olds t node f rest env u
             pick (Good k) (Good c) fo ro told past =
@@ -711,7 +724,7 @@ module _ (w : Setting Handle) (funcs : List Func) (room : ℕ) (deep : Tracing H
             pick e (Fault c i n) fo ro told past = tt
             pick e (Other c why) fo ro told past = tt
 
-        module _ (began : Began level number env reads r) (room_is : levels - level ≡ room) where
+        module _ (room_is : levels - level ≡ room) where
           bare_here : (k : Kept) → bare (R r k) ≡ rec.R room number env reads (bare k)
           bare_here k = bare_is r began room_is k
 
@@ -746,19 +759,21 @@ module _ (w : Setting Handle) (funcs : List Func) (room : ℕ) (deep : Tracing H
           block_looks = looks_follow (length reads) v u.values.knows (R r) e f fo (looks_block v u.values.knows r reads (what e) began.reads (looks_from v p1.values.knows u.values.knows (what e) op.same l.looks))
 
           pub leaves_block : (q : Pass) (o : Ended Kept) → LeavesAfter w deep first olds t node f rest env u q o → LeavesAct w room deep first olds t (Block number reads body inner) rest env par p q o
-          leaves_block q o h = act_of w funcs room deep first none short holding olds t (Block number reads body inner) rest env par p q o (does_after w funcs deep first olds t rest env par node p u f q o block_does h) (raises_after w funcs deep first olds t rest env par node p u all_made block_moves (calm_then olds p p1 u (λ z y. ap (times y) op.quiet) (calm_by olds p1 u l.moves.marks e l.raises)) f q o (block_only began) (block_behind began) h) (looks_after w deep first olds t node rest env (length reads) v u q f o block_looks h) (after_tells q o f fo h)
+          leaves_block q o h = act_of at (Block number reads body inner) q o (does_after at node u f q o block_does h) (raises_after at node u all_made block_moves (calm_then olds p p1 u (λ z y. ap (times y) op.quiet) (calm_by olds p1 u l.moves.marks e l.raises)) f q o (block_only) (block_behind) h) (looks_after w deep first olds t node rest env (length reads) v u q f o block_looks h) (after_tells q o f fo h)
 
   -- par
   module _ (ls rs : List Stmt) (b : BeginsAct w funcs olds t (Sides ls rs) rest env par p) where
     pub leaves_no_par : (q : Pass) (node : Handle) (h : Halt) → HaltsFor t p q (nodes_only ((node, par) ∷ [])) h → LeavesAct w room deep first olds t (Sides ls rs) rest env par p q (halted (S node E E) h)
     leaves_no_par q node h x =
-        act_of w funcs room deep first none short holding olds t (Sides ls rs) rest env par p q (halted (S node E E) h)
+        act_of at (Sides ls rs) q (halted (S node E E) h)
         (does_want (made_below par) t p q (S node E E) (nodes_only ((node, par) ∷ [])) h refl refl refl refl x)
         (halt_raises olds t p q (nodes_only ((node, par) ∷ [])) (S node E E) h x)
         (halt_looks 0 t p q (nodes_only ((node, par) ∷ [])) (S node E E) h x (looks_none v v (S node E E) refl refl))
         (halt_tells_act w room deep first (Sides ls rs) rest env t p q (nodes_only ((node, par) ∷ [])) (S node E E) h b.room (λ base. bare_sides same_handle room deep first rest env base ls rs) x)
 
-    module _ (node : Handle) (p1 : Pass) (op : Opens t p p1 (nodes_only ((node, par) ∷ []))) (kn : Keeps p1.marks.knows node) where
+    module _ (s : Stepped at) where
+      open s use {node, pass as p1, opens as op, keeps as kn}
+
       pub begins_par : BeginsAct w funcs olds t (Sides ls rs) rest env (Some node) p1
       begins_par = record { of = op.moves.of; checked = b.checked; room = op.room; tidy = op.moves.stays.tidy; fit = op.moves.fit; parent = kn; sights = tt; needs = subst (NeedsAct w (Sides ls rs) rest env) (sym op.same) b.needs; warns = warns_on olds t rest env p p1 (nodes_only ((node, par) ∷ [])) ls rs w op refl b.warns }
 
@@ -833,7 +848,7 @@ module _ (w : Setting Handle) (funcs : List Func) (room : ℕ) (deep : Tracing H
             pick (Other k why) r told past = tt
 
         pub leaves_par : (q : Pass) (o : Ended Kept) → LeavesAfter w deep first olds t node e rest env u q o → LeavesAct w room deep first olds t (Sides ls rs) rest env par p q o
-        leaves_par q o h = act_of w funcs room deep first none short holding olds t (Sides ls rs) rest env par p q o (does_after w funcs deep first olds t rest env par node p u e q o par_does h) (raises_after w funcs deep first olds t rest env par node p u par_made par_moves (calm_then olds p p1 u (λ z y. ap (times y) op.quiet) (calm_by olds p1 u l.moves.marks e l.raises)) e q o par_only par_behind h) (looks_after w deep first olds t node rest env 0 v u q e o (looks_from v p1.values.knows u.values.knows (what e) op.same l.looks) h) (pick e par_told h)
+        leaves_par q o h = act_of at (Sides ls rs) q o (does_after at node u e q o par_does h) (raises_after at node u par_made par_moves (calm_then olds p p1 u (λ z y. ap (times y) op.quiet) (calm_by olds p1 u l.moves.marks e l.raises)) e q o par_only par_behind h) (looks_after w deep first olds t node rest env 0 v u q e o (looks_from v p1.values.knows u.values.knows (what e) op.same l.looks) h) (pick e par_told h)
           where
             pick : (e : Ended Kept) → TellsBoth w room deep first ls rs rest env v u.values.knows (bared e) → LeavesAfter w deep first olds t node e rest env u q o → TellsAct w room deep first (Sides ls rs) rest env v q.values.knows (bared o)
             pick (Good k) told h =
@@ -847,7 +862,9 @@ module _ (w : Setting Handle) (funcs : List Func) (room : ℕ) (deep : Tracing H
                 (subst (λ (z : Pass). TellsAct w room deep first (Sides ls rs) rest env v z.values.knows (Other (rec.S (bare k) rec.E) why)) (sym h.0) (tells_par_cut w room deep first rest env v ls rs u.values.knows (bare k) why told))
 
 -- both sides
-module _ (w : Setting Handle) (funcs : List Func) (room : ℕ) (deep : Tracing Handle) (first : Cuts Handle) (none : StartsEmpty first) (short : Shortens deep first) (holding : HoldsHere w funcs deep) (olds : List Handle) (t : Tables) (ls rs rest : List Stmt) (env : Env Handle) (par : Option Handle) (p : Pass) (b : BeginsAct w funcs olds t (Sides ls rs) rest env par p) where
+module _ (at : Site) (ls rs : List Stmt) (b : BeginsAct at.w at.funcs at.olds at.t (Sides ls rs) at.rest at.env at.par at.p) where
+  open at use {w, funcs, room, deep, first, none, short, holding, olds, t, rest, env, par, p}
+
   both_of : (q : Pass) (e : Ended Kept) → Does (made_below par) t p q e → RaisesBy olds p q e → Looks 0 p.values.knows q.values.knows (what e) → TellsBoth w room deep first ls rs rest env p.values.knows q.values.knows (bared e) → LeavesBoth w room deep first olds t ls rs rest env par p q e
   both_of q e d r l h = record { made = d.made; moves = d.moves; all = d.all; room = d.room; full = d.full; raises = r; words = d.words; looks = l; tells = h }
 
@@ -867,7 +884,9 @@ module _ (w : Setting Handle) (funcs : List Func) (room : ℕ) (deep : Tracing H
       halt_tells (halt.Full which at) x = begun (Some (record { which = which; index = at.index; room = at.room })) x.same
       halt_tells halt.NoMemory x = begun None x.same
 
-  module _ (node : Handle) (p1 : Pass) (op : Opens t p p1 (nodes_only ((node, par) ∷ []))) (kn : Keeps p1.marks.knows node) where
+  module _ (s : Stepped at) where
+    open s use {node, pass as p1, opens as op, keeps as kn}
+
     abbrev one_node : Made
     one_node = nodes_only ((node, par) ∷ [])
 
@@ -1101,7 +1120,19 @@ module _ (w : Setting Handle) (funcs : List Func) (room : ℕ) (deep : Tracing H
             raises (Other a why) f x y wl wk = sides_calm (calm_by olds l l' ll.moves.marks (Other a why) x) (calm_by olds k k' lk.moves.marks f y)
 
 -- a body
-module _ (w : Setting Handle) (funcs : List Func) (olds : List Handle) (t : Tables) (env : Env Handle) (par : Option Handle) (p : Pass) where
+module _ (g : World) (env : Env Handle) (par : Option Handle) (p : Pass) where
+  abbrev w : Setting Handle
+  w = setting_of g
+
+  abbrev funcs : List Func
+  funcs = g.funcs.now
+
+  abbrev olds : List Handle
+  olds = g.olds.now
+
+  abbrev t : Tables
+  t = g.tables.now
+
   pub leaves_end : (room : ℕ) (body : List Stmt) (k : Kept) → length body < 1 → k ≡ E → Begins w funcs olds t body env par p → Leaves w (traced w funcs room) (cut_short w funcs room) olds t body env par p p (Good k)
   leaves_end room [] k h e b =
       subst (λ z. Leaves w (traced w funcs room) (cut_short w funcs room) olds t [] env par p p (Good z)) (sym e)
@@ -1238,13 +1269,15 @@ module _ (w : Setting Handle) (funcs : List Func) (olds : List Handle) (t : Tabl
             looked_raises (Fault c i n) r = only_before olds t p p' q nothing k.made (puts c) asked_moves k.moves (raises_looked olds p p' be l) (λ m x o i y j. absurd j) r
             looked_raises (Other c why) r = calm_then olds p p' q (λ e y. ap (λ z. times y z.knows.marked) be.marks) r
 
+  -- the same, with what tells the pass in between first
+  pub leaves_act_on : (p' q : Pass) (e : Ended Kept) (level : ℕ) (body : List Stmt) (s : Stmt) (rest : List Stmt) (a : Action Handle) → LeavesActIn g (level + 1) a rest env par p' q e → s ∷ rest ≡ body → BeginsIn g body env par p → BesideValues p p' → Looked p.values.knows p'.values.knows → p'.values.knows.looks ≡ p.values.knows.looks + looks_for a → ((heap : Heap) → Readable w env p.values.knows heap (out-Stmt s) → action_of (listed w) w funcs env heap (out-Stmt s) ≡ Ok a) → level < levels → LeavesIn g level body env par p q e
+  leaves_act_on p' q e level body s rest a k is b be l saw asked h =
+      let next : levels - (level + 1) ≡ levels - level - 1 = omega arith in
+      leaves_act body s rest is b p' be l a asked (levels - level) q e saw (omega (arith, h)) (subst (λ z. LeavesAct w z (traced w funcs z) (cut_short w funcs z) olds t a rest env par p' q e) next k)
+
 -- the same, with what tells the pass in between first
-pub leaves_make_on : (w : Setting Handle) (funcs : List Func) (room : ℕ) (deep : Tracing Handle) (first : Cuts Handle) (none : StartsEmpty first) (short : Shortens deep first) (holding : HoldsHere w funcs deep) (olds : List Handle) (t : Tables) (a : Action Handle) (rest : List Stmt) (env : Env Handle) (par : Option Handle) (p p' q : Pass) (e f : Ended Kept) (d : ℕ) (m : Handle) (inner : Env Handle) → Leaves w deep first olds t rest inner par p' q e → BeginsAct w funcs olds t a rest env par p → BesideValues p p' → Claims p.values.knows m p'.values.knows → Lacks p.values.knows m.slot → p'.values.knows.claims.over ≡ 0 → a ≡ Make d → inner ≡ bind d (ref m) env → Follows (then_ended (A m) e) f → LeavesAct w room deep first olds t a rest env par p q f
-leaves_make_on w funcs room deep first none short holding olds t a rest env par p p' q e f d m inner k b be c l o is env_is h = leaves_make w funcs room deep first none short holding olds t a rest env par p d m p' b be c l o inner is env_is q e f k h
+pub leaves_make_on : (at : Site) (a : Action Handle) (p' q : Pass) (e f : Ended Kept) (d : ℕ) (m : Handle) (inner : Env Handle) → Leaves at.w at.deep at.first at.olds at.t at.rest inner at.par p' q e → BeginsAct at.w at.funcs at.olds at.t a at.rest at.env at.par at.p → BesideValues at.p p' → Claims at.p.values.knows m p'.values.knows → Lacks at.p.values.knows m.slot → p'.values.knows.claims.over ≡ 0 → a ≡ Make d → inner ≡ bind d (ref m) at.env → Follows (then_ended (A m) e) f → LeavesAct at.w at.room at.deep at.first at.olds at.t a at.rest at.env at.par at.p q f
+leaves_make_on at a p' q e f d m inner k b be c l o is env_is h = leaves_make at a d m p' b be c l o inner is env_is q e f k h
 
-pub leaves_put_on : (w : Setting Handle) (funcs : List Func) (room : ℕ) (deep : Tracing Handle) (first : Cuts Handle) (none : StartsEmpty first) (short : Shortens deep first) (holding : HoldsHere w funcs deep) (olds : List Handle) (t : Tables) (a : Action Handle) (rest : List Stmt) (env : Env Handle) (par : Option Handle) (p p1 p' q : Pass) (e f : Ended Kept) (m : Handle) (x : Plain) (ws : List ℕ) → Leaves w deep first olds t rest env par p' q e → BeginsAct w funcs olds t a rest env par p → a ≡ Put m (plain_value x) → ws ≡ words_of x → of_words ws ≡ Some x → Roused t olds m ws p p1 → BesideValues p1 p' → p'.values.knows ≡ wrote m.slot (three_of ws) p1.values.knows → Follows (then_ended (W m x) e) f → LeavesAct w room deep first olds t a rest env par p q f
-leaves_put_on w funcs room deep first none short holding olds t a rest env par p p1 p' q e f m x ws k b is words value ro be wr h = leaves_put w funcs room deep first none short holding olds t a rest env par p m x ws is words value b p1 ro p' be wr q e f k h
-
-pub leaves_act_on : (w : Setting Handle) (funcs : List Func) (olds : List Handle) (t : Tables) (env : Env Handle) (par : Option Handle) (p p' q : Pass) (e : Ended Kept) (room inner : ℕ) (body : List Stmt) (s : Stmt) (rest : List Stmt) (a : Action Handle) → LeavesAct w inner (traced w funcs inner) (cut_short w funcs inner) olds t a rest env par p' q e → inner ≡ room - 1 → s ∷ rest ≡ body → Begins w funcs olds t body env par p → BesideValues p p' → Looked p.values.knows p'.values.knows → p'.values.knows.looks ≡ p.values.knows.looks + looks_for a → ((heap : Heap) → Readable w env p.values.knows heap (out-Stmt s) → action_of (listed w) w funcs env heap (out-Stmt s) ≡ Ok a) → 0 < room → Leaves w (traced w funcs room) (cut_short w funcs room) olds t body env par p q e
-leaves_act_on w funcs olds t env par p p' q e room inner body s rest a k i is b be l saw asked h =
-    leaves_act w funcs olds t env par p body s rest is b p' be l a asked room q e saw h (subst (λ z. LeavesAct w z (traced w funcs z) (cut_short w funcs z) olds t a rest env par p' q e) i k)
+pub leaves_put_on : (at : Site) (a : Action Handle) (p1 p' q : Pass) (e f : Ended Kept) (m : Handle) (x : Plain) (ws : List ℕ) → Leaves at.w at.deep at.first at.olds at.t at.rest at.env at.par p' q e → BeginsAct at.w at.funcs at.olds at.t a at.rest at.env at.par at.p → a ≡ Put m (plain_value x) → ws ≡ words_of x → of_words ws ≡ Some x → Roused at.t at.olds m ws at.p p1 → BesideValues p1 p' → p'.values.knows ≡ wrote m.slot (three_of ws) p1.values.knows → Follows (then_ended (W m x) e) f → LeavesAct at.w at.room at.deep at.first at.olds at.t a at.rest at.env at.par at.p q f
+leaves_put_on at a p1 p' q e f m x ws k b is words value ro be wr h = leaves_put at a m x ws is words value b p1 ro p' be wr q e f k h

@@ -8,3 +8,4 @@ pub mod Fit
 pub mod Raising
 pub mod Looks
 pub mod Laws
+pub mod Worlds

@@ -10,3 +10,4 @@ pub mod nodes;
 pub mod put;
 pub mod run;
 pub mod warn;
+pub mod world;
