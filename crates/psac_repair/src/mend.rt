@@ -1,4 +1,7 @@
 //! The repair: the walk down to what is marked, and up again.
+//!
+//! A record is as deep as its program, and the walk goes down it by recursion. So what `mend` hands a part to is a call, with its
+//! locals off the stack before and behind it: inlined, every level would pay for all of them.
 ghost use Rattle.std.specs.Prelude.{◌≡◌, ◌<◌, false};
 ghost use Rattle.std.specs.Thread.{IsSync};
 ghost use Rattle.psac_fork.specs.Whole.{IsOf};
@@ -143,6 +146,7 @@ fn mend_part<Rt: Threads + Sync, G: Gate + Sync>(
 
 /// Repairs a read block that is marked: runs it again where it read other words than are present, and else goes into it.
 #[cycle(mend)]
+#[inline(never)]
 fn mend_block<Rt: Threads + Sync, G: Gate + Sync>(
     rt: &Rt,
     alloc: Global,
@@ -187,6 +191,7 @@ fn mend_block<Rt: Threads + Sync, G: Gate + Sync>(
 /// Repairs both sides of a par that is marked: at once, each on its part of the pass, where that can be forked, and else the left one
 /// first, both on the whole of it.
 #[cycle(mend)]
+#[inline(never)]
 fn mend_both<Rt: Threads + Sync, G: Gate + Sync>(
     rt: &Rt,
     alloc: Global,
@@ -219,6 +224,7 @@ fn mend_both<Rt: Threads + Sync, G: Gate + Sync>(
 
 /// Repairs the left side, and where it is done the right one.
 #[cycle(mend)]
+#[inline(never)]
 fn mend_in_turn<Rt: Threads + Sync, G: Gate + Sync>(
     rt: &Rt,
     alloc: Global,
@@ -253,6 +259,7 @@ fn mend_in_turn<Rt: Threads + Sync, G: Gate + Sync>(
 
 /// Repairs both sides at once, each on its part of the pass.
 #[cycle(mend)]
+#[inline(never)]
 fn mend_sides<Rt: Threads + Sync, G: Gate + Sync>(
     rt: &Rt,
     alloc: Global,
@@ -289,6 +296,7 @@ fn mend_sides<Rt: Threads + Sync, G: Gate + Sync>(
 /// Repairs these two records, at once where the crew has a permit. Each job makes a world of its own from the parts: of a job that
 /// captures a world its caller learns nothing.
 #[cycle(mend)]
+#[inline(never)]
 fn mend_at_once<Rt: Threads + Sync, G: Gate + Sync>(
     rt: &Rt,
     alloc: Global,

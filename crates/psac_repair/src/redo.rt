@@ -94,6 +94,7 @@ fn replaced(
 
 /// Takes off what a block ran, and runs it again with what it reads now. The rest of the body that the block stands in is there for
 /// the contract alone.
+#[inline(never)]
 pub fn redo_block<Rt: Threads + Sync, G: Gate + Sync>(
     rt: &Rt,
     alloc: Global,
