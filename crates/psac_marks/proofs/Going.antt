@@ -1,5 +1,5 @@
 -- What the four stores of a node's going make of a view.
-use Rattle.psac_marks.proofs.Terms.{◌≡◌, ◌≢◌, ℕ, suc, ◌+◌, ◌*◌, ◌/◌, ◌%◌, ◌<◌, ◌≤◌, List, [], ◌∷◌, map, Bool, true, false, refl, sym, ap, ◌∙◌, subst, ⊎_elim, arith, Option, Some, None, length-append, cond, none_some, filter, not, ◌==◌, eq-eqb, ne_eqb, cases_eq, cases_lt, Handle, Member, later, removed, slot_times, times, Accounted, accounted_returned, member_map, map_member, member_filter, member_times, found, OwnView, StateView, MarksView, own_place, shared_place, handle_of, free_word, state_at, other_own, other_state, hang, hung, put, stated, cleared, gave, released, Tells, Carries, Owns, Bare, Childless, filtered}
+use Rattle.psac_marks.proofs.Terms.{◌≡◌, ◌≢◌, ℕ, suc, ◌+◌, ◌*◌, ◌/◌, ◌%◌, ◌<◌, ◌≤◌, List, [], ◌∷◌, map, Bool, true, false, refl, sym, ap, ◌∙◌, subst, ⊎_elim, arith, Option, Some, None, cond, none_some, filter, not, ◌==◌, eq-eqb, ne_eqb, cases_eq, cases_lt, Handle, Member, later, removed, slot_times, times, Accounted, accounted_returned, member_map, map_member, member_filter, member_times, found, OwnView, StateView, MarksView, own_place, shared_place, handle_of, free_word, state_at, other_own, other_state, hang, hung, put, stated, cleared, gave, released, Tells, Carries, Owns, Bare, Childless, filtered}
 use Rattle.psac_slots.proofs.Carrying as ring
 use Rattle.psac_marks.proofs.Carrying.{renewed, ring_here}
 use Rattle.psac_marks.proofs.Parts.{each_place, times_gone, place_own, place_shared}

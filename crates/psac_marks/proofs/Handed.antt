@@ -1,5 +1,5 @@
 -- What passes carry over forks, joins and rewinds.
-use Rattle.psac_marks.proofs.Terms.{◌≡◌, ℕ, ◌+◌, ◌-◌, ◌<◌, ◌++◌, map, length, take, Bool, refl, sym, ◌∙◌, subst, ⊎_elim, filter, map-append, Member, stays, goes, lends, member_cases, member_filter, member_map, rest_is, OwnView, SharedView, StateView, MarksView, Place, own_place, shared_place, places, handle_of, ways, left_of, right_of, now_shared, joined, regained, rewound, Holds, Carries, Ringed, ringed_rewound}
+use Rattle.psac_marks.proofs.Terms.{◌≡◌, ℕ, ◌+◌, ◌-◌, ◌<◌, ◌++◌, map, length, take, Bool, refl, ◌∙◌, subst, ⊎_elim, filter, map-append, Member, stays, goes, lends, member_cases, member_filter, member_map, OwnView, SharedView, StateView, MarksView, Place, own_place, shared_place, places, handle_of, ways, left_of, right_of, now_shared, joined, regained, rewound, Holds, Carries, Ringed, ringed_rewound}
 use Rattle.psac_slots.specs.Claiming as claiming
 use Rattle.psac_marks.proofs.Carrying.{renewed, ring_here}
 use Rattle.psac_marks.proofs.Parts.{each_place, place_own, place_shared}

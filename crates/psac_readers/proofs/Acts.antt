@@ -250,5 +250,6 @@ module _ (links mods slots id : ℕ) (v : ReadersView) (hs : List (ℕ × Unit {
           refl,
           nothing_shared links mods s.words s.views h id v at empty,
           subst (λ z. claiming.DrewBelow z v.claims) (sym e) (turns.drawn_all links h.counter h.head h.list s.words (map claims_of s.views) h.claims id v.claims (at_map claims_of s.views id v at) live empty),
+          here_once links mods s.words s.views h id v at,
         ),
       )

@@ -1,5 +1,5 @@
 -- What passes carry over forks, joins and leaves.
-use Rattle.psac_readers.proofs.Terms.{◌≡◌, ℕ, ◌+◌, ◌-◌, ◌<◌, List, [], ◌∷◌, length, take, Bool, cond, refl, sym, ap, ◌∙◌, arith, Some, sum_by, not, sum_by-cons, eq-eqb, LinkView, ReadersView, named, alive, Each, rest_is, regained, rewound, Fine, is_settled, die, dying, left, learned, left_of, right_of, joined, right_link, Carries, Ringed, ringed_rewound}
+use Rattle.psac_readers.proofs.Terms.{◌≡◌, ℕ, ◌+◌, ◌-◌, ◌<◌, List, [], ◌∷◌, length, take, Bool, cond, refl, ap, ◌∙◌, arith, Some, sum_by, not, sum_by-cons, eq-eqb, LinkView, ReadersView, named, alive, Each, regained, rewound, Fine, is_settled, die, dying, left, learned, left_of, right_of, joined, right_link, Carries, Ringed, ringed_rewound}
 use Rattle.psac_slots.specs.Claiming as claiming
 use Rattle.psac_readers.proofs.Links.{each_stage, restaged_fine, alive_deads, sum_under, each_append, each_filter, each_map, each_imp}
 use Rattle.psac_readers.proofs.Walking.{named_low}

@@ -1,5 +1,5 @@
 -- The views on the way of a link that is given back.
-use Rattle.psac_readers.proofs.Terms.{◌≡◌, ℕ, ◌+◌, ◌<◌, List, [], ◌∷◌, ◌++◌, map, length, Bool, true, false, cond, refl, ap, ◌∙◌, ⊎_elim, arith, length-append, sum_map, sum_by, filter, not, ◌==◌, sum_by-cons, Handle, has_room, accounted_returned, Stage, LinkView, ReadersView, head_at, times, in_set, is_live, named, alive, Each, reviving, revive, revived, leaving, take_off, lose, unlinked, other_link, freed, swept_one, is_settled, Fine, led_from, IsSet, Carries, ringed_returned}
+use Rattle.psac_readers.proofs.Terms.{◌≡◌, ℕ, ◌+◌, ◌<◌, List, [], ◌∷◌, ◌++◌, map, length, Bool, true, false, cond, refl, ap, ◌∙◌, ⊎_elim, arith, sum_map, sum_by, filter, not, ◌==◌, sum_by-cons, Handle, has_room, accounted_returned, Stage, LinkView, ReadersView, head_at, times, in_set, is_live, named, alive, Each, reviving, revive, revived, leaving, take_off, lose, unlinked, other_link, freed, swept_one, is_settled, Fine, led_from, IsSet, Carries, ringed_returned}
 use Rattle.psac_slots.specs.Handles as handles
 use Rattle.psac_slots.specs.Claiming as claiming
 use Rattle.psac_readers.proofs.Carrying.{renewed, ring_here}
@@ -53,10 +53,8 @@ room_after l v has a = let h : Handle = record { slot = l; generation = 1 } in (
 
 pub carries_swept : (links mods head room words l : ℕ) (v : ReadersView) → Carries links mods head room words v → length v.claims.list < v.claims.count → Carries links mods head (room + 1) words (swept_one l v)
 carries_swept links mods head room words l v c less =
-    let k = c.links_is in
-    let r = c.room_is in
     renewed links mods head room words v c head (room + 1) (swept_one l v)
-    (ringed_returned links head room v.claims (ring_here links mods head room words v c) (record { slot = l; generation = 1 }) (omega (arith, r, k, less)))
+    (ringed_returned links head room v.claims (ring_here links mods head room words v c) (record { slot = l; generation = 1 }) (omega (arith, c.room_is, c.links_is, less)))
     refl (each_filter (Fine links) (other_link l) v.links c.fine)
 
 -- the place behind a part of a chain is a word of the table

@@ -1,5 +1,5 @@
 -- Lists of links, and chains.
-use Rattle.psac_readers.proofs.Terms.{◌≡◌, ◌≢◌, ◌⊎◌, ℕ, zero, suc, ◌+◌, ◌<◌, ◌≤◌, List, [], ◌∷◌, ◌++◌, map, length, set, Bool, true, false, true≢false, cond, refl, sym, ap, ◌∙◌, subst, ⊎_elim, arith, Option, Some, at_less, slice_at, sum_by, filter, not, ◌==◌, slice_index, sum_by-cons, eq-eqb, eqb-true, cases_eq, some, some-ne-none, some-injective, get_elem?, set_else, Handle, sum_le, sum_none, sum_two, same_some, Stage, Claimed, UnderWay, In, Dead, LinkView, WalkView, Follows, in_set, is_live, is_dead, named, linked, alive, deads, times, Each, mods_of, next_at, node_at, Staged, Knows, Seen, new_link, forget, learn, front, behind, settled, is_settled, Fine, node_in, chain_of}
+use Rattle.psac_readers.proofs.Terms.{◌≡◌, ◌≢◌, ℕ, zero, suc, ◌+◌, ◌<◌, ◌≤◌, List, [], ◌∷◌, ◌++◌, map, length, set, Bool, true, false, true≢false, cond, refl, sym, ap, ◌∙◌, subst, ⊎_elim, arith, Option, Some, at_less, slice_at, sum_by, filter, not, ◌==◌, slice_index, sum_by-cons, eq-eqb, eqb-true, cases_eq, some, some-ne-none, some-injective, get_elem?, set_else, Handle, sum_le, sum_none, sum_two, same_some, Stage, Claimed, UnderWay, In, Dead, LinkView, WalkView, Follows, in_set, is_live, is_dead, named, linked, alive, deads, times, Each, mods_of, next_at, node_at, Staged, Knows, Seen, new_link, forget, learn, front, behind, settled, is_settled, Fine, node_in, chain_of}
 use Rattle.psac_slots.specs.Handles as handles
 pub use Rattle.psac_slots.proofs.Tables.{sum_map}
 

@@ -1,5 +1,5 @@
 -- The first words and the first view meet the rule.
-use Rattle.psac_readers.proofs.Terms.{◌≡◌, ◌⊎◌, ℕ, zero, suc, ◌+◌, ◌*◌, ◌<◌, ◌≤◌, [], ◌∷◌, ◌++◌, map, length, true, false, true≢false, refl, sym, ap, ◌∙◌, subst, ⊎_elim, arith, Some, length-append, at_past, ring_length, same_some, cases_lt, some, get_elem?, at_longer, at_last, length-fresh, Own, Each, Seen, Tells, Readable, rights_of, ways, dead_at, first_walk, first_view, zeros, first_words, Carries}
+use Rattle.psac_readers.proofs.Terms.{◌≡◌, ℕ, zero, suc, ◌+◌, ◌*◌, ◌<◌, ◌≤◌, [], ◌∷◌, ◌++◌, map, length, true, false, true≢false, refl, sym, ap, ◌∙◌, subst, ⊎_elim, arith, Some, length-append, at_past, ring_length, same_some, cases_lt, some, get_elem?, at_longer, at_last, length-fresh, Own, Each, Seen, Tells, Readable, rights_of, ways, dead_at, first_walk, first_view, zeros, first_words, Carries}
 use Rattle.psac_slots.specs.Handles as handles
 use Rattle.psac_slots.proofs.Opens as laws
 use Rattle.psac_readers.proofs.Links.{each_append}

@@ -1,5 +1,5 @@
 -- Splits and joins keep the rule.
-use Rattle.psac_readers.proofs.Terms.{◌≡◌, ◌≢◌, ◌⊎◌, ℕ, ◌+◌, ◌<◌, List, [], ◌∷◌, ◌++◌, map, length, set, Bool, true, false, true≢false, cond, refl, sym, ap, ◌∙◌, subst, inl, inr, ⊎_elim, arith, at_mapped, is_off, none_some, set_there, sum_by, filter, not, ◌&&◌, ◌==◌, sum_by-append, sum_by_push, map-append, map-set, cases_eq, cases_Bool, eqb-true, some, get_elem?, at_map, set_else, Handle, stem, sum_set, sum_two, all_set, Claimed, LinkView, WalkView, SharedView, ReadersView, Member, Rights, Divided, stays, goes, above, comes_back, united, no_rights, in_set, named, linked, deads, Each, mods_of, claims_of, rights_of, Knows, Placed, Seen, Tells, Readable, labelled, ways, right_link, now_shared, left_of, right_of, joined, unknown, spent, member_left, member_right, filter_member, map_member, one_after, Strangers, on_left, on_right, divides, unites, alone_cases, none_there, shared_same}
+use Rattle.psac_readers.proofs.Terms.{◌≡◌, ◌≢◌, ◌⊎◌, ℕ, ◌+◌, ◌<◌, List, [], ◌∷◌, ◌++◌, map, length, set, Bool, true, false, true≢false, cond, refl, sym, ap, ◌∙◌, subst, inl, inr, ⊎_elim, arith, at_mapped, is_off, none_some, set_there, sum_by, filter, not, ◌&&◌, ◌==◌, sum_by-append, sum_by_push, map-append, map-set, cases_eq, cases_Bool, eqb-true, some, get_elem?, at_map, set_else, Handle, stem, sum_set, sum_two, all_set, LinkView, WalkView, SharedView, ReadersView, Member, Rights, Divided, stays, goes, above, comes_back, united, no_rights, in_set, named, linked, deads, Each, mods_of, claims_of, rights_of, Knows, Placed, Seen, Tells, Readable, labelled, ways, right_link, now_shared, left_of, right_of, joined, unknown, spent, member_left, member_right, filter_member, map_member, one_after, Strangers, on_left, on_right, divides, unites, alone_cases, none_there, shared_same}
 use Rattle.psac_slots.specs.Claiming as claiming
 use Rattle.psac_slots.specs.Handles as handles
 use Rattle.psac_slots.proofs.Keeps as laws

@@ -1,5 +1,5 @@
 -- The steps by which a sole pass takes a link off its set and gives it back.
-use Rattle.psac_readers.proofs.Terms.{◌≡◌, ◌≢◌, ℕ, ◌+◌, ◌<◌, ◌≤◌, List, [], ◌∷◌, ◌++◌, map, length, set, Bool, true, false, true≢false, cond, refl, sym, ap, ◌∙◌, subst, ⊎_elim, arith, mod-lt, sum_map, sum_by, filter, not, ◌==◌, map-set, eq-eqb, eqb-true, ne_eqb, cases_eq, some, get_elem?, at_map, Handle, removed_gone, removed_else, sum_at, Claimed, LinkView, ReadersView, dead_at, in_set, is_dead, named, linked, deads, mods_of, claims_of, Staged, Knows, Placed, Readable, reviving, revived, other_link, freed}
+use Rattle.psac_readers.proofs.Terms.{◌≡◌, ◌≢◌, ℕ, ◌+◌, ◌<◌, ◌≤◌, List, [], ◌∷◌, ◌++◌, map, length, set, Bool, true, false, true≢false, cond, refl, sym, ap, ◌∙◌, subst, ⊎_elim, arith, mod-lt, sum_map, sum_by, filter, not, ◌==◌, map-set, eq-eqb, eqb-true, ne_eqb, cases_eq, some, get_elem?, at_map, Handle, removed_gone, removed_else, sum_at, LinkView, ReadersView, dead_at, in_set, is_dead, named, linked, deads, mods_of, claims_of, Staged, Knows, Placed, Readable, reviving, revived, other_link, freed}
 use Rattle.psac_slots.specs.Handles as handles
 use Rattle.psac_slots.specs.Claiming as claiming
 use Rattle.psac_slots.proofs.Rewinds as turns

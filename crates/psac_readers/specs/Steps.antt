@@ -135,7 +135,7 @@ regained n v = record v { claims = claiming.learned n v.claims }
 
 -- no other pass has a set that this one shares, and none drew an index
 abbrev pub Regained : Step (Unit {0}) → Seat → ℕ → Seat → Type 0
-Regained s v n w = (w ≡ (regained n v.0, v.1)) × (v.0.shared ≡ []) × claiming.DrewBelow n v.0.claims
+Regained s v n w = (w ≡ (regained n v.0, v.1)) × (v.0.shared ≡ []) × claiming.DrewBelow n v.0.claims × ((l : ℕ) → sum_by (named l) v.0.links ≤ 1)
 
 abbrev pub rewound : ReadersView → ReadersView
 rewound v = record v { claims = claiming.rewound v.claims }

@@ -321,6 +321,7 @@ impl Readers {
         ensures table { result.table ≡ pass.table }
         ensures counter { (n : ℕ) × (result.knows ≡ regained n pass.knows) × DrewBelow n pass.knows.claims }
         ensures alone { result.knows.shared ≡ [] }
+        ensures once { (l : ℕ) → sum_by (named l) result.knows.links ≤ 1 }
     {
         let ReadersPass {
             mut seat,

@@ -1,5 +1,5 @@
 -- What a pass of values carries after each step, and what it reads.
-use Rattle.psac_values.proofs.Terms.{◌≡◌, ◌≢◌, ◌⊎◌, ℕ, suc, ◌+◌, ◌-◌, ◌*◌, ◌/◌, ◌%◌, ◌<◌, ◌≤◌, List, [], ◌∷◌, ◌++◌, map, length, set, take, Bool, true, false, refl, sym, ap, ◌∙◌, subst, inl, inr, ⊎_elim, arith, Option, Some, None, length-append, cond, filter, not, ◌==◌, length-map, map-append, cases_lt, eq-eqb, ne_eqb, cases_Bool, sum_by_push, bit, member_times, claimed_entry, some, get_elem?, Handle, stem, Member, slot_times, later, removed, stays, goes, lends, above, comes_back, member_left, member_right, member_cases, member_filter, filter_member, member_map, map_member, rest_is, OwnedView, KnownView, StateView, ValueView, handle_of, value_at, out_word, ways, Meeting, Tells, looked, put, wrote_word, mark, marked, drew, new_owned, new_state, left_of, right_of, joined, learned, rewound, gave, other_owned, other_state, Knows, all_words, rewritten, took, United, IsOut, Carries, same_slot, filtered, found, Ringed, ringed_rewound, ringed_returned}
+use Rattle.psac_values.proofs.Terms.{◌≡◌, ◌≢◌, ℕ, suc, ◌+◌, ◌-◌, ◌*◌, ◌/◌, ◌%◌, ◌<◌, ◌≤◌, List, [], ◌∷◌, ◌++◌, map, length, set, take, Bool, true, false, refl, sym, ap, ◌∙◌, subst, inl, inr, ⊎_elim, arith, Option, Some, None, cond, filter, not, ◌==◌, length-map, map-append, cases_lt, eq-eqb, ne_eqb, cases_Bool, sum_by_push, bit, member_times, claimed_entry, some, get_elem?, Handle, stem, Member, slot_times, later, removed, stays, goes, lends, above, comes_back, member_left, member_right, member_cases, member_filter, filter_member, member_map, map_member, OwnedView, KnownView, StateView, ValueView, handle_of, value_at, out_word, ways, Meeting, Tells, looked, put, wrote_word, mark, marked, drew, new_owned, new_state, left_of, right_of, joined, learned, rewound, gave, other_owned, other_state, Knows, all_words, rewritten, took, United, IsOut, Carries, same_slot, filtered, found, Ringed, ringed_rewound, ringed_returned}
 use Rattle.psac_slots.specs.Claiming as claiming
 use Rattle.psac_slots.proofs.Carrying as ring
 use Rattle.psac_values.proofs.Keeps.{back_again, mark_of}

@@ -1,4 +1,4 @@
-use Rattle.psac_readers.proofs.Terms.{false, ◌<◌, sym, ap, subst, ◌∙◌, arith, sum_by, eqb-true, named, alive}
+use Rattle.psac_readers.proofs.Terms.{◌<◌, sym, ap, subst, ◌∙◌, arith, sum_by, eqb-true, named, alive}
 use Rattle.psac_readers.proofs.Acts.{loads}
 use Rattle.psac_readers.proofs.Links.{on_then}
 use Rattle.psac_readers.proofs.Walking.{named_low, all_whole}
