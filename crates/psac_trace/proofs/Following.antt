@@ -1,17 +1,16 @@
 -- What follows from what a run tells.
 use Rattle.std.specs.Prelude.{sum_by, cond}
-use Rattle.std.proofs.Common.{◌≡◌, ◌≢◌, ℕ, zero, suc, ◌+◌, ◌≤◌, ◌<◌, ◌==◌, List, [], ◌∷◌, length, slice_index_or, Contains, AllPairs, refl, ap, sym, subst, inl, inr, ⊎_elim, arith}
+use Rattle.std.proofs.Common.{◌≡◌, ◌≢◌, ℕ, zero, suc, ◌<◌, List, [], ◌∷◌, length, slice_index_or, Contains, AllPairs, refl, ap, sym, subst, inl, inr, arith}
 use Rattle.std.proofs.lemmas.List.Kept.{AllPairs-cons}
 use Rattle.psac_ops.specs.declared.plain.Handle.{Handle}
 use Rattle.psac_slots.specs.Handles.{Member}
 use Rattle.psac_values.specs.declared.view.ValueView.{ValueView}
-use Rattle.psac_readers.specs.declared.view.ReadersView.{ReadersView}
 use Rattle.psac_readers.specs.Chained.{named}
-use Rattle.psac_record.specs.Kept.{Kept, Stands, made_of}
+use Rattle.psac_record.specs.Kept.{Stands, made_of}
 use Rattle.psac_laws.proofs.Places.{nat_same}
-use Rattle.psac_trace.specs.Grown.{Differ, MoreValues, MoreLinks, as_link}
+use Rattle.psac_trace.specs.Grown.{Differ, MoreValues, as_link}
 use Rattle.psac_trace.specs.Told.{Good, Fault, Other}
-use Rattle.psac_trace.specs.Laws.{NewMade, RunsTellAll, SidesAddUp, OnceEach, LinksStandOnce}
+use Rattle.psac_trace.specs.Laws.{NewMade, RunsTellAll, SidesAddUp, LinksStandOnce}
 use Rattle.psac_trace.proofs.Leading.{member_sum, zero_or}
 use Rattle.psac_trace.proofs.Rewriting.{rewrote_joined}
 

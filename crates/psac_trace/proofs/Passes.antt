@@ -17,7 +17,7 @@ use Rattle.psac_values.specs.Knowing.{Has, Claims, United, wrote, three_of}
 use Rattle.psac_readers.specs.Steps as readers
 use Rattle.psac_readers.specs.Chained.{named}
 use Rattle.psac_marks.specs.Steps as marks
-use Rattle.psac_marks.specs.Passes.{Keeps, United as UnitedNodes}
+use Rattle.psac_marks.specs.Passes.{United as UnitedNodes}
 use Rattle.psac_fork.specs.declared.tables.Pass.{Pass}
 use Rattle.psac_fork.specs.declared.tables.Tables.{Tables}
 use Rattle.psac_fork.specs.Whole.{IsOf, HasRoom}
@@ -51,7 +51,6 @@ use Rattle.psac_trace.specs.Running.{NeedsAct, TellsAct, TellsBoth, RoomAfter, A
 use Rattle.psac_slots.specs.Handles.{Member}
 use Rattle.psac_values.specs.Knowing.{Knows}
 use Rattle.psac_record.specs.Kept.{Stands, stands}
-use Rattle.psac_traced.proofs.Holds.{HoldsHere}
 use Rattle.psac_trace.specs.Rights.{In, held}
 use Rattle.psac_trace.specs.Raising.{Rewrote, Calm, Only, puts, RaisesBy, Warns, Raisable, olds_after}
 use Rattle.psac_trace.specs.Running.{WarnsAct}
@@ -88,7 +87,7 @@ use Rattle.psac_trace.proofs.Moving.{vain_mine, moves_none, moves_then, full_the
 use Rattle.psac_ops.specs.Named.{same_handle}
 use Rattle.psac_cut.specs.CutShort.{Cuts, cuts, cut_short}
 use Rattle.psac_cut.specs.Based.{CutOn}
-use Rattle.psac_cut.proofs.Cutting.{StartsEmpty, Shortens, act_short}
+use Rattle.psac_cut.proofs.Cutting.{Shortens, act_short}
 use Rattle.psac_cut.proofs.Based.{before, vain_new, at_new, at_body, at_block, bare_sides, cut_on_none}
 use Rattle.psac_trace.proofs.Asked.{sees_looked}
 use Rattle.psac_trace.proofs.Leaving.{Does, does_then, bared_then, bared_both, follows_bared, other_bared, room_over, room_follows, full_follows, full_before, most_is, NoMore, most_front, what_bared, what_then, same_what, all_front, all_follows, inside, step_made, step_end, sides_made, side_made, block_made, all_both, room_both, full_both, room_from, room_then}

@@ -1,14 +1,13 @@
 -- Which words are written, and which are known as before: over one call after another, and over both sides of a fork.
 use Rattle.std.specs.Prelude.{cond}
-use Rattle.std.proofs.Common.{◌≡◌, ◌⊎◌, ℕ, ◌==◌, Bool, true, false, List, [], ◌∷◌, ◌++◌, map, Option, Some, refl, ap, sym, ◌∙◌, subst, inl, inr, ⊎_elim}
+use Rattle.std.proofs.Common.{◌≡◌, ◌⊎◌, ℕ, ◌==◌, Bool, true, List, [], ◌∷◌, ◌++◌, map, refl, ap, sym, ◌∙◌, subst, inl, inr, ⊎_elim}
 use Rattle.std.specs.Prelude.{filter}
 use Rattle.psac_ops.specs.declared.plain.Handle.{Handle}
 use Rattle.psac_ops.specs.declared.plain.Plain.{Plain}
 use Rattle.psac_ops.specs.declared.plain.Plain.TheVariants as plain
 use Rattle.psac_ops.specs.Words.{words_of}
-use Rattle.psac_syntax.specs.declared.program.Stmt.{Stmt}
 use Rattle.psac_slots.specs.Handles.{Member}
-use Rattle.psac_slots.specs.Divided.{stays, goes, lends, told, comes_back}
+use Rattle.psac_slots.specs.Divided.{stays, goes, told, comes_back}
 use Rattle.psac_slots.proofs.Pairs.{member_left, member_right, member_cases, member_map, member_filter}
 use Rattle.psac_values.specs.declared.view.OwnedView.{OwnedView}
 use Rattle.psac_values.specs.declared.view.KnownView.{KnownView}
@@ -17,13 +16,10 @@ use Rattle.psac_values.specs.Valued as values_rule
 use Rattle.psac_values.specs.Steps as values
 use Rattle.psac_values.specs.Steps.{Lacks, new_owned}
 use Rattle.psac_values.specs.Knowing.{Has, Knows, Claims, United, all_words, three_of, rewritten, wrote}
-use Rattle.psac_fork.specs.declared.tables.Pass.{Pass}
-use Rattle.psac_fork.specs.declared.tables.Tables.{Tables}
-use Rattle.psac_record.specs.Kept.{Kept, A, W, S, P, R}
-use Rattle.psac_laws.proofs.Places.{some_is, nat_is, test_or}
+use Rattle.psac_laws.proofs.Places.{nat_is, test_or}
 use Rattle.psac_trace.specs.Rights.{Tidy, Kept as Stays}
 use Rattle.psac_trace.specs.Asking.{Looked}
-use Rattle.psac_trace.specs.Raising.{puts, Rewrote}
+use Rattle.psac_trace.specs.Raising.{Rewrote}
 use Rattle.psac_trace.proofs.Views.{mine_is, known_is, wrote_has}
 use Rattle.psac_trace.proofs.Forks.{told_cases, joined_known}
 use Rattle.psac_trace.proofs.Growing.{lacks_before, left_lacked, right_lacked, mine_joined}

@@ -24,7 +24,7 @@ use Rattle.psac_laws.proofs.Places.{none_some, some_is, nat_same, not_true, not_
 use Rattle.psac_laws.proofs.Rules.{or_left, has_without, has_both, without_within, both_in, leaves}
 use Rattle.psac_traced.specs.Rec.{Rec, E, A, W, S, P, R, writes}
 use Rattle.psac_traced.specs.Traced.{Traces as Tracing, listed, acts, acts_or_stops, goes_on, traced}
-use Rattle.psac_trace.specs.Rights.{Heap, held, In, Within, Wider, Sees, Tidy, Kept, Target, Ready, Moved, Unchanged}
+use Rattle.psac_trace.specs.Rights.{Heap, held, In, Within, Wider, Sees, Tidy, Kept, Ready, Moved, Unchanged}
 use Rattle.psac_ops.specs.Named.{same_handle}
 use Rattle.psac_cut.specs.CutShort.{Cuts, cuts}
 use Rattle.psac_cut.specs.Based.{CutOn}

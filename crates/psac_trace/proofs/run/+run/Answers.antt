@@ -1,4 +1,4 @@
-use Rattle.std.proofs.Common.{rules, ◌≡◌, ◌<◌, ◌+◌, ◌-◌, List, [], ◌∷◌, Some, ap, sym, subst, refl, ◌∙◌, arith}
+use Rattle.std.proofs.Common.{◌≡◌, ◌<◌, ◌-◌, List, Some, ap, sym, subst, refl, ◌∙◌, arith}
 use Rattle.psac_ops.specs.declared.plain.Handle.{Handle}
 use Rattle.psac_ops.specs.Named.{value_of as plain_value}
 use Rattle.psac_model.specs.Fresh.{levels}
@@ -12,13 +12,13 @@ use Rattle.psac_record.specs.Shown.{kept_of}
 use Rattle.psac_trace.specs.Told.{did, ended_of, halted}
 use Rattle.psac_trace.specs.Running.{Begins, Leaves}
 use Rattle.psac_trace.specs.Worlds.{BeginsIn, LeavesIn, LeavesAfterIn}
-use Rattle.psac_trace.proofs.Handing.{Site, site, stepped_on, stepped_not, opened_on, opened_not, acts_begin, acts_leave}
+use Rattle.psac_trace.proofs.Handing.{site, stepped_on, stepped_not, opened_on, opened_not, acts_begin, acts_leave}
 use Rattle.psac_trace.proofs.Passes.{leaves_unbound, begins_bind, leaves_bind, leaves_unnamed, begins_make, leaves_make_on, leaves_full}
 use Rattle.psac_trace.proofs.Passes.{put_may, put_mine, begins_put, leaves_put_on}
 use Rattle.psac_trace.proofs.Passes.{begins_any, after_halt, leaves_no_inner, begins_inner, begins_after_inner, leaves_inner}
 use Rattle.psac_trace.proofs.Passes.{leaves_no_block, leaves_unentered, begins_block, begins_after_block, leaves_block}
 use Rattle.psac_trace.proofs.Passes.{leaves_no_par, begins_par, begins_after_par, leaves_par, leaves_no_sides, begins_first, leaves_out}
-use Rattle.psac_trace.proofs.Passes.{begins_second, leaves_second, begins_left, begins_right, join_of, join_sides, leaves_joined}
+use Rattle.psac_trace.proofs.Passes.{begins_second, leaves_second, begins_left, begins_right, join_sides, leaves_joined}
 use Rattle.psac_trace.proofs.Passes.{leaves_end, whole_is, leaves_deep, asks, leaves_stop, begins_act, leaves_act_on}
 use Rattle.psac_trace.proofs.run.+run.Goals as goal
 
