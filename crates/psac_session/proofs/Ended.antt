@@ -7,7 +7,7 @@ use Rattle.std.proofs.lemmas.List.{append-nil, drop_all, take-append-le}
 use Rattle.std.proofs.lemmas.List.Folds.{list_any-append}
 use Rattle.std.proofs.Math.Seq.{take-append_seam, take-append-add, take-length}
 use Rattle.psac_base.specs.Feeds.{NoFeed, lines_of}
-use Rattle.psac_base.specs.Lines.{GivesLine, Grew, NoFeedBeforePiece}
+use Rattle.psac_base.specs.Lines.{GivesLine, NoFeedBeforePiece}
 use Rattle.psac_base.specs.Outside.{Appended}
 use Rattle.psac_base.proofs.Splits.{last_is_last, whole_is_next}
 use Rattle.psac_base.proofs.Wrote.{Appended-append, Appended-nil}

@@ -6,7 +6,7 @@ use Rattle.std.proofs.lemmas.List.{append-nil, drop_at, drop-take, take-append-l
 use Rattle.std.proofs.lemmas.List.Folds.{list_any-append}
 use Rattle.std.proofs.Math.ListN.{get_or-append}
 use Rattle.psac_base.specs.Feeds.{lines_of, line_text}
-use Rattle.psac_base.specs.Lines.{EndsAtEnd, GivesLast, GivesLine, GivesWhole, Grew}
+use Rattle.psac_base.specs.Lines.{EndsAtEnd, GivesLast, GivesWhole, Grew}
 use Rattle.psac_base.proofs.Splits.{last_is_last, whole_is_next}
 use Rattle.psac_model.specs.Fresh.{World}
 use Rattle.psac_report.specs.Script.{command_of}

@@ -1,5 +1,5 @@
 use Rattle.std.proofs.Common.{◌≡◌, ◌<◌, length, arith, rules, inl, sym, ◌∙◌, ap, refl, subst, true, false}
-use Rattle.psac_base.specs.Lines.{bytes_of, given_of, has_ended, is_live}
+use Rattle.psac_base.specs.Lines.{bytes_of, given_of, is_live}
 use Rattle.psac_report.specs.Steps.{is_quit}
 use Rattle.psac_report.specs.Session.{step_of}
 use Rattle.psac_engine.specs.Engine.{caps_in, world_in}
