@@ -7,7 +7,7 @@ use Rattle.std.proofs.lemmas.List.{append-nil, drop_all, take-append-le}
 use Rattle.std.proofs.lemmas.List.Folds.{list_any-append}
 use Rattle.std.proofs.Math.Seq.{take-append_seam, take-append-add, take-length}
 use Rattle.psac_base.specs.Feeds.{NoFeed, lines_of}
-use Rattle.psac_base.specs.Lines.{GivesLine, Grew, NoFeedBeforePiece}
+use Rattle.psac_base.specs.Lines.{GivesLine, NoFeedBeforePiece}
 use Rattle.psac_base.specs.Outside.{Appended}
 use Rattle.psac_base.proofs.Splits.{last_is_last, whole_is_next}
 use Rattle.psac_base.proofs.Wrote.{Appended-append, Appended-nil}
@@ -22,7 +22,8 @@ use Rattle.psac_session.specs.Heard.{Heard, IsNext, Outward, Shows, commits, hea
 use Rattle.psac_session.specs.Turned.{BrokeOff, IsExpected, text_of}
 use Rattle.psac_session.proofs.Adding.{Heard-append, Heard-nil}
 use Rattle.psac_session.proofs.Replies.{replies_quit, shows_quit}
-use Rattle.psac_session.proofs.Turn.{Behind, Going, Over, cut_all, cut_whole, grown, heard_then, line_then}
+use Rattle.psac_session.proofs.Fed.{Fed, going_on}
+use Rattle.psac_session.proofs.Turn.{Behind, Going, Over, cut_all, cut_whole, heard_then, line_then}
 
 -- what is answered to lines from a state on
 abbrev from_state : World → Step → State → Answer
@@ -107,29 +108,6 @@ module _ (w : World) (step : Step) (start : State) where
       ap (λ (ls : List (List ℕ)). shows_after w step ls start) (cut_all bytes more given g.lines g.within g.cut)
       ∙ sym (g.rest_seen (lines_of (drop given (bytes ++ more))))
 
-  -- where the lines that were given are answered
-  pub part_going : (bytes bytes' : List ℕ) (first left left' : Option (List ℕ)) (n n' given : ℕ) (s : State) (before now : Outward)
-      → Grew bytes bytes' left left' n n' → Consumes first left' bytes' → Going w step start bytes given s before now
-      → AttendedPart (from_state w step start) (heard_from w step start) first before now
-  part_going bytes bytes' first left left' n n' given s before now grew took going =
-      let g = grown w step start bytes grew.got bytes' given s before now grew.bytes going in
-      let more = replies_by w step (lines_of (drop given (bytes' ++ rest_of left'))) s in
-      let whole = reported bytes' (rest_of left') given s before now g in
-      let same : g.done ≡ take (length g.done) (replies_by w step (lines_of (bytes' ++ rest_of left')) start) =
-      sym (ap (take (length g.done)) whole ∙ take-append_seam g.done more) in
-      let later = shows_after w step (lines_of (drop given (bytes' ++ rest_of left'))) s in
-      let all = heard_whole bytes' (rest_of left') given s before now g in
-      let front : g.seen ≡ take (length g.seen) (shows_after w step (lines_of (bytes' ++ rest_of left')) start) =
-      sym (ap (take (length g.seen)) all ∙ take-append_seam g.seen later) in
-      record {
-        script = bytes' ++ rest_of left';
-        is_script = is_script first left' bytes' took;
-        written = (length g.done, omega (arith, ap length whole, length-append g.done more), subst (λ (xs : List ℕ). Appended before.0 now.0 xs) same g.adds.0);
-        count = length g.seen;
-        within = omega (arith, ap length all, length-append g.seen later);
-        heard = subst (λ (xs : Shows). Heard before.1 now.1 xs) front g.adds.1;
-      }
-
   -- a line that was given is the next one of the script
   next_of : (bytes : List ℕ) (left' : Option (List ℕ)) (given given' : ℕ) (ended' : Bool) (s : State) (before now : Outward) (text : List ℕ)
       → (g : Going w step start bytes given s before now) → GivesLine bytes given given' ended' text → (ended' ≡ true → IsAtEnd left')
@@ -145,65 +123,6 @@ module _ (w : World) (step : Step) (start : State) where
         (cut_whole bytes given g.lines g.within g.cut ∙ ap (λ (ls : List (List ℕ)). g.lines ++ ls) (last_is_last bytes given given' text last.1)),
   )
 
-  -- a first part of the reply to a line was written
-  pub part_wrote : (bytes bytes' : List ℕ) (first left left' : Option (List ℕ)) (n n' given given' : ℕ) (ended' : Bool) (s : State) (before now after : Outward) (text : List ℕ)
-      → Grew bytes bytes' left left' n n' → Consumes first left' bytes' → (ended' ≡ true → IsAtEnd left') → GivesLine bytes' given given' ended' text
-      → BrokeOff w step s text now after → Going w step start bytes given s before now
-      → AttendedPart (from_state w step start) (heard_from w step start) first before after
-  part_wrote bytes bytes' first left left' n n' given given' ended' s before now after text grew took at_end line broke going =
-      let g = grown w step start bytes grew.got bytes' given s before now grew.bytes going in
-      let next = next_of bytes' left' given given' ended' s before now text g line at_end in
-      let s' = (step s (command_of text)).0 in
-      let out = text_of w (step s (command_of text)) in
-      let hear = heard_by w (command_of text) s' in
-      let more = replies_by w step next.0 s' in
-      let later = shows_after w step next.0 s' in
-      let part = broke.written in
-      let report = replies_by w step (lines_of (bytes' ++ rest_of left')) start in
-      let shows = shows_after w step (lines_of (bytes' ++ rest_of left')) start in
-      let whole : report ≡ g.done ++ (out ++ more) =
-      ap (λ (ls : List (List ℕ)). replies_by w step ls start) next.1 ∙ sym (g.rest (text ∷ next.0))
-      ∙ ap (λ (xs : List ℕ). g.done ++ xs) (line_then w step text out next.0 s s' broke.other refl refl) in
-      let front : take (length g.done + part.0) report ≡ g.done ++ take part.0 out =
-      ap (take (length g.done + part.0)) whole ∙ take-append-add g.done (out ++ more) part.0
-      ∙ ap (λ (xs : List ℕ). g.done ++ xs) (take-append-le part.0 out more part.1) in
-      let all : shows ≡ (g.seen ++ hear) ++ later =
-      ap (λ (ls : List (List ℕ)). shows_after w step ls start) next.1 ∙ sym (g.rest_seen (text ∷ next.0))
-      ∙ ap (λ (xs : Shows). g.seen ++ xs) (heard_then w step text next.0 s s' broke.other refl) ∙ sym (append_assoc g.seen hear later) in
-      let heard : g.seen ++ hear ≡ take (length (g.seen ++ hear)) shows =
-      sym (ap (take (length (g.seen ++ hear))) all ∙ take-append_seam (g.seen ++ hear) later) in
-      record {
-        script = bytes' ++ rest_of left';
-        is_script = is_script first left' bytes' took;
-        written = (
-          length g.done + part.0,
-          omega (arith, ap length whole, length-append g.done (out ++ more), length-append out more, part.1),
-          subst (λ (xs : List ℕ). Appended before.0 after.0 xs) (sym front) (Appended-append before.0 now.0 after.0 g.done (take part.0 out) g.adds.0 part.2),
-        );
-        count = length (g.seen ++ hear);
-        within = omega (arith, ap length all, length-append (g.seen ++ hear) later);
-        heard = subst (λ (xs : Shows). Heard before.1 after.1 xs) heard (Heard-append before.1 now.1 after.1 g.seen hear g.adds.1 broke.heard);
-      }
-
-  -- `quit` was given
-  pub quits : (bytes bytes' : List ℕ) (first left left' : Option (List ℕ)) (n n' given given' : ℕ) (ended' : Bool) (s : State) (before now : Outward) (text : List ℕ)
-      → Grew bytes bytes' left left' n n' → Consumes first left' bytes' → (ended' ≡ true → IsAtEnd left') → GivesLine bytes' given given' ended' text
-      → is_quit text ≡ true → Going w step start bytes given s before now → Attended (from_state w step start) (heard_from w step start) first before now
-  quits bytes bytes' first left left' n n' given given' ended' s before now text grew took at_end line quit going =
-      let g = grown w step start bytes grew.got bytes' given s before now grew.bytes going in
-      let next = next_of bytes' left' given given' ended' s before now text g line at_end in
-      let all : g.done ≡ replies_by w step (lines_of (bytes' ++ rest_of left')) start =
-      sym (append-nil g.done) ∙ ap (λ (xs : List ℕ). g.done ++ xs) (sym (replies_quit w step text next.0 s quit)) ∙ g.rest (text ∷ next.0)
-      ∙ ap (λ (ls : List (List ℕ)). replies_by w step ls start) (sym next.1) in
-      let shows : g.seen ≡ shows_after w step (lines_of (bytes' ++ rest_of left')) start =
-      sym (append-nil g.seen) ∙ ap (λ (xs : Shows). g.seen ++ xs) (sym (shows_quit w step text next.0 s quit)) ∙ g.rest_seen (text ∷ next.0)
-      ∙ ap (λ (ls : List (List ℕ)). shows_after w step ls start) (sym next.1) in
-      record {
-        script = bytes' ++ rest_of left';
-        is_script = is_script first left' bytes' took;
-        adds = (subst (λ (xs : List ℕ). Appended before.0 now.0 xs) all g.adds.0, subst (λ (xs : Shows). Heard before.1 now.1 xs) shows g.adds.1);
-      }
-
   stops : (bytes : List ℕ) (left' : Option (List ℕ)) (given given' : ℕ) (ended' : Bool) (s : State) (before now : Outward) (text : List ℕ)
       → (g : Going w step start bytes given s before now) → GivesLine bytes given given' ended' text → (ended' ≡ true → IsAtEnd left') → is_quit text ≡ true
       → IsAtEnd left' ⊎ (list_any is_quit (lines_of bytes) ≡ true)
@@ -215,37 +134,6 @@ module _ (w : World) (step : Step) (start : State) where
       ap (list_any is_quit) lines ∙ list_any-append is_quit g.lines (text ∷ more) ∙ rw (g.no_quit, quit) refl in
       inr (rw (append-nil bytes) at there)
   stops bytes left' given given' ended' s before now text g (inr last) at_end quit = inl (at_end last.0)
-
-  pub quits_read : (bytes bytes' : List ℕ) (first left left' : Option (List ℕ)) (n n' m m' given given' : ℕ) (ended' : Bool) (s : State) (before now : Outward) (text : List ℕ)
-      → Grew bytes bytes' left left' n n' → Consumes first left' bytes' → m' ≡ m + length bytes' → (ended' ≡ true → IsAtEnd left') → GivesLine bytes' given given' ended' text
-      → is_quit text ≡ true → Going w step start bytes given s before now → ReadOut first left' m m'
-  quits_read bytes bytes' first left left' n n' m m' given given' ended' s before now text grew took count at_end line quit going =
-      let g = grown w step start bytes grew.got bytes' given s before now grew.bytes going in
-      record { bytes = bytes'; took = took; count = count; stop = stops bytes' left' given given' ended' s before now text g line at_end quit }
-
-  -- no line was left
-  pub ends : (bytes bytes' : List ℕ) (first left left' : Option (List ℕ)) (n n' given : ℕ) (ended : Bool) (s : State) (before now : Outward)
-      → Grew bytes bytes' left left' n n' → Consumes first left' bytes' → (ended ≡ true → bytes' ≡ bytes) → given ≡ length bytes' → IsAtEnd left'
-      → Going w step start bytes given s before now ⊎ Over w step start bytes given ended before now → Attended (from_state w step start) (heard_from w step start) first before now
-  ends bytes bytes' first left left' n n' given ended s before now grew took still all at_end (inl going) =
-      let g = grown w step start bytes grew.got bytes' given s before now grew.bytes going in
-      let none : drop given bytes' ≡ [] = drop_all given bytes' (omega (arith, all)) in
-      let lines : lines_of bytes' ≡ g.lines ++ [] = cut_whole bytes' given g.lines g.within g.cut ∙ ap (λ (xs : List ℕ). g.lines ++ lines_of xs) none in
-      let report : g.done ≡ replies_by w step (lines_of bytes') start =
-      sym (append-nil g.done) ∙ g.rest [] ∙ ap (λ (ls : List (List ℕ)). replies_by w step ls start) (sym lines) in
-      let shows : g.seen ≡ shows_after w step (lines_of bytes') start =
-      sym (append-nil g.seen) ∙ g.rest_seen [] ∙ ap (λ (ls : List (List ℕ)). shows_after w step ls start) (sym lines) in
-      record {
-        script = bytes';
-        is_script = whole_script first left' bytes' took at_end;
-        adds = (subst (λ (xs : List ℕ). Appended before.0 now.0 xs) report g.adds.0, subst (λ (xs : Shows). Heard before.1 now.1 xs) shows g.adds.1);
-      }
-  ends bytes bytes' first left left' n n' given ended s before now grew took still all at_end (inr over) =
-      record {
-        script = bytes';
-        is_script = whole_script first left' bytes' took at_end;
-        adds = rw (still over.at_end) over.adds;
-      }
 
   behind_told : (bytes : List ℕ) (given : ℕ) → Behind bytes given → (given ≡ 0) ⊎ (slice_index bytes (given - 1) ≡ 10)
   behind_told bytes given (inl zero) = inl zero
@@ -266,23 +154,6 @@ module _ (w : World) (step : Step) (start : State) where
         written = subst (λ (xs : List ℕ). Appended before.0 now.0 xs) report g.adds.0;
       }
 
-  -- a read failed
-  pub breaks : (bytes bytes' : List ℕ) (first left left' : Option (List ℕ)) (n n' given : ℕ) (s : State) (before now : Outward)
-      → Grew bytes bytes' left left' n n' → Consumes first left' bytes' → NoFeed bytes' given (length bytes') → Going w step start bytes given s before now
-      → AnsweredWhole (from_state w step start) first left' before.0 now.0
-  breaks bytes bytes' first left left' n n' given s before now grew took none going =
-      let g = grown w step start bytes grew.got bytes' given s before now grew.bytes going in
-      record { bytes = bytes'; took = took; answered = answered_to bytes' (length bytes') given s before now g none }
-
-  -- too much was read
-  pub too_long : (bytes bytes' : List ℕ) (first left left' : Option (List ℕ)) (n n' given : ℕ) (s : State) (before now : Outward)
-      → Grew bytes bytes' left left' n n' → Consumes first left' bytes' → length bytes' ≡ 16777217 → NoFeedBeforePiece bytes' given → Going w step start bytes given s before now
-      → AnsweredLong (from_state w step start) first left' before.0 now.0
-  too_long bytes bytes' first left left' n n' given s before now grew took long none going =
-      let g = grown w step start bytes grew.got bytes' given s before now grew.bytes going in
-      let near : NoFeed bytes' given 16773121 = λ k low high feed. none.none k low (omega (arith, none.piece, long)) feed in
-      record { bytes = bytes'; took = took; count = long; answered = answered_to bytes' 16773121 given s before now g near }
-
   next_told : (all : Shows) (heard0 heard : Option Shows) (seen hear later : Shows) (before : Shows) (shown : Option (List Shown)) → all ≡ before ++ ((seen ++ hear) ++ later)
       → heard0 ≡ Some before → Heard heard0 heard seen → hear ≡ shown ∷ [] → IsNext all heard shown
   next_told all heard0 None seen hear later before shown is first heard one = tt
@@ -293,23 +164,143 @@ module _ (w : World) (step : Step) (start : State) where
       ∙ ap (λ (xs : Shows). (before ++ seen) ++ (xs ++ later)) one ∙ ap (λ (xs : Shows). xs ++ shown ∷ later) (sym told) in
       rw at (get_at now shown later)
 
+module _ {w : World} {step : Step} {start : State} {bytes : List ℕ} {first left : Option (List ℕ)} {m n given : ℕ}
+    {ended : Bool} {s : State} {before now : Outward} (f : Fed w step start bytes first left m n given ended s before now) where
+  -- where the lines that were given are answered
+  pub part_going : Going w step start bytes given s before now
+      → AttendedPart (from_state w step start) (heard_from w step start) first before now
+  part_going g =
+      let more = replies_by w step (lines_of (drop given (bytes ++ rest_of left))) s in
+      let whole = reported w step start bytes (rest_of left) given s before now g in
+      let same : g.done ≡ take (length g.done) (replies_by w step (lines_of (bytes ++ rest_of left)) start) =
+      sym (ap (take (length g.done)) whole ∙ take-append_seam g.done more) in
+      let later = shows_after w step (lines_of (drop given (bytes ++ rest_of left))) s in
+      let all = heard_whole w step start bytes (rest_of left) given s before now g in
+      let front : g.seen ≡ take (length g.seen) (shows_after w step (lines_of (bytes ++ rest_of left)) start) =
+      sym (ap (take (length g.seen)) all ∙ take-append_seam g.seen later) in
+      record {
+        script = bytes ++ rest_of left;
+        is_script = is_script first left bytes f.took;
+        written = (length g.done, omega (arith, ap length whole, length-append g.done more), subst (λ (xs : List ℕ). Appended before.0 now.0 xs) same g.adds.0);
+        count = length g.seen;
+        within = omega (arith, ap length all, length-append g.seen later);
+        heard = subst (λ (xs : Shows). Heard before.1 now.1 xs) front g.adds.1;
+      }
+
+  -- a first part of the reply to a line was written
+  pub part_wrote : (given' : ℕ) (after : Outward) (text : List ℕ) → GivesLine bytes given given' ended text
+      → BrokeOff w step s text now after → AttendedPart (from_state w step start) (heard_from w step start) first before after
+  part_wrote given' after text line broke =
+      let g = going_on f.state line in
+      let next = next_of w step start bytes left given given' ended s before now text g line f.at_end in
+      let s' = (step s (command_of text)).0 in
+      let out = text_of w (step s (command_of text)) in
+      let hear = heard_by w (command_of text) s' in
+      let more = replies_by w step next.0 s' in
+      let later = shows_after w step next.0 s' in
+      let part = broke.written in
+      let report = replies_by w step (lines_of (bytes ++ rest_of left)) start in
+      let shows = shows_after w step (lines_of (bytes ++ rest_of left)) start in
+      let whole : report ≡ g.done ++ (out ++ more) =
+      ap (λ (ls : List (List ℕ)). replies_by w step ls start) next.1 ∙ sym (g.rest (text ∷ next.0))
+      ∙ ap (λ (xs : List ℕ). g.done ++ xs) (line_then w step text out next.0 s s' broke.other refl refl) in
+      let front : take (length g.done + part.0) report ≡ g.done ++ take part.0 out =
+      ap (take (length g.done + part.0)) whole ∙ take-append-add g.done (out ++ more) part.0
+      ∙ ap (λ (xs : List ℕ). g.done ++ xs) (take-append-le part.0 out more part.1) in
+      let all : shows ≡ (g.seen ++ hear) ++ later =
+      ap (λ (ls : List (List ℕ)). shows_after w step ls start) next.1 ∙ sym (g.rest_seen (text ∷ next.0))
+      ∙ ap (λ (xs : Shows). g.seen ++ xs) (heard_then w step text next.0 s s' broke.other refl) ∙ sym (append_assoc g.seen hear later) in
+      let heard : g.seen ++ hear ≡ take (length (g.seen ++ hear)) shows =
+      sym (ap (take (length (g.seen ++ hear))) all ∙ take-append_seam (g.seen ++ hear) later) in
+      record {
+        script = bytes ++ rest_of left;
+        is_script = is_script first left bytes f.took;
+        written = (
+          length g.done + part.0,
+          omega (arith, ap length whole, length-append g.done (out ++ more), length-append out more, part.1),
+          subst (λ (xs : List ℕ). Appended before.0 after.0 xs) (sym front) (Appended-append before.0 now.0 after.0 g.done (take part.0 out) g.adds.0 part.2),
+        );
+        count = length (g.seen ++ hear);
+        within = omega (arith, ap length all, length-append (g.seen ++ hear) later);
+        heard = subst (λ (xs : Shows). Heard before.1 after.1 xs) heard (Heard-append before.1 now.1 after.1 g.seen hear g.adds.1 broke.heard);
+      }
+
+  -- `quit` was given
+  pub quits : (given' : ℕ) (text : List ℕ) → GivesLine bytes given given' ended text → is_quit text ≡ true
+      → Attended (from_state w step start) (heard_from w step start) first before now
+  quits given' text line quit =
+      let g = going_on f.state line in
+      let next = next_of w step start bytes left given given' ended s before now text g line f.at_end in
+      let all : g.done ≡ replies_by w step (lines_of (bytes ++ rest_of left)) start =
+      sym (append-nil g.done) ∙ ap (λ (xs : List ℕ). g.done ++ xs) (sym (replies_quit w step text next.0 s quit)) ∙ g.rest (text ∷ next.0)
+      ∙ ap (λ (ls : List (List ℕ)). replies_by w step ls start) (sym next.1) in
+      let shows : g.seen ≡ shows_after w step (lines_of (bytes ++ rest_of left)) start =
+      sym (append-nil g.seen) ∙ ap (λ (xs : Shows). g.seen ++ xs) (sym (shows_quit w step text next.0 s quit)) ∙ g.rest_seen (text ∷ next.0)
+      ∙ ap (λ (ls : List (List ℕ)). shows_after w step ls start) (sym next.1) in
+      record {
+        script = bytes ++ rest_of left;
+        is_script = is_script first left bytes f.took;
+        adds = (subst (λ (xs : List ℕ). Appended before.0 now.0 xs) all g.adds.0, subst (λ (xs : Shows). Heard before.1 now.1 xs) shows g.adds.1);
+      }
+
+  pub quits_read : (given' : ℕ) (text : List ℕ) → GivesLine bytes given given' ended text → is_quit text ≡ true → ReadOut first left m n
+  quits_read given' text line quit =
+      let g = going_on f.state line in
+      record { bytes = bytes; took = f.took; count = f.count; stop = stops w step start bytes left given given' ended s before now text g line f.at_end quit }
+
+  ends_by : Going w step start bytes given s before now ⊎ Over w step start bytes given ended before now
+      → given ≡ length bytes → IsAtEnd left → Attended (from_state w step start) (heard_from w step start) first before now
+  ends_by (inl g) all at_end =
+      let none : drop given bytes ≡ [] = drop_all given bytes (omega (arith, all)) in
+      let lines : lines_of bytes ≡ g.lines ++ [] = cut_whole bytes given g.lines g.within g.cut ∙ ap (λ (xs : List ℕ). g.lines ++ lines_of xs) none in
+      let report : g.done ≡ replies_by w step (lines_of bytes) start =
+      sym (append-nil g.done) ∙ g.rest [] ∙ ap (λ (ls : List (List ℕ)). replies_by w step ls start) (sym lines) in
+      let shows : g.seen ≡ shows_after w step (lines_of bytes) start =
+      sym (append-nil g.seen) ∙ g.rest_seen [] ∙ ap (λ (ls : List (List ℕ)). shows_after w step ls start) (sym lines) in
+      record {
+        script = bytes;
+        is_script = whole_script first left bytes f.took at_end;
+        adds = (subst (λ (xs : List ℕ). Appended before.0 now.0 xs) report g.adds.0, subst (λ (xs : Shows). Heard before.1 now.1 xs) shows g.adds.1);
+      }
+  ends_by (inr over) all at_end =
+      record {
+        script = bytes;
+        is_script = whole_script first left bytes f.took at_end;
+        adds = over.adds;
+      }
+
+  -- no line was left
+  pub ends : given ≡ length bytes → IsAtEnd left → Attended (from_state w step start) (heard_from w step start) first before now
+  ends all at_end = ends_by f.state all at_end
+
+  -- a read failed
+  pub breaks : NoFeed bytes given (length bytes) → Going w step start bytes given s before now
+      → AnsweredWhole (from_state w step start) first left before.0 now.0
+  breaks none g =
+      record { bytes = bytes; took = f.took; answered = answered_to w step start bytes (length bytes) given s before now g none }
+
+  -- too much was read
+  pub too_long : length bytes ≡ 16777217 → NoFeedBeforePiece bytes given → Going w step start bytes given s before now
+      → AnsweredLong (from_state w step start) first left before.0 now.0
+  too_long long none g =
+      let near : NoFeed bytes given 16773121 = λ k low high feed. none.none k low (omega (arith, none.piece, long)) feed in
+      record { bytes = bytes; took = f.took; count = long; answered = answered_to w step start bytes 16773121 given s before now g near }
+
   -- what a line that is given shows is next of what is to be heard
-  pub foreseen : (bytes bytes' : List ℕ) (first left left' : Option (List ℕ)) (n n' given given' : ℕ) (ended' : Bool) (s : State) (before now : Outward) (text : List ℕ) (course : Option Shows)
-      → Grew bytes bytes' left left' n n' → Consumes first left' bytes' → (ended' ≡ true → IsAtEnd left') → GivesLine bytes' given given' ended' text
-      → IfSome course (Foretold (heard_from w step start) first before.1) → Going w step start bytes given s before now
-      → IsExpected w step s text course now.1
-  foreseen bytes bytes' first left left' n n' given given' ended' s before now text None grew took at_end line told going = tt
-  foreseen bytes bytes' first left left' n n' given given' ended' s before now text (Some all) grew took at_end line told going = λ commits.
-      let g = grown w step start bytes grew.got bytes' given s before now grew.bytes going in
-      let next = next_of bytes' left' given given' ended' s before now text g line at_end in
+  pub foreseen : (given' : ℕ) (text : List ℕ) (course : Option Shows) → GivesLine bytes given given' ended text
+      → IfSome course (Foretold (heard_from w step start) first before.1) → IsExpected w step s text course now.1
+  foreseen given' text None line told = tt
+  foreseen given' text (Some all) line told = λ commits.
+      let g = going_on f.state line in
+      let next = next_of w step start bytes left given given' ended s before now text g line f.at_end in
       let s' = (step s (command_of text)).0 in
       let shown = shown_now w s' in
       let hear = heard_by w (command_of text) s' in
       let later = shows_after w step next.0 s' in
-      let script : told.script ≡ bytes' ++ rest_of left' = rw told.is_script at (is_script first left' bytes' took) in
+      let script : told.script ≡ bytes ++ rest_of left = rw told.is_script at (is_script first left bytes f.took) in
       let whole : shows_after w step (lines_of told.script) start ≡ (g.seen ++ hear) ++ later =
       ap (λ (xs : List ℕ). shows_after w step (lines_of xs) start) script ∙ ap (λ (ls : List (List ℕ)). shows_after w step ls start) next.1
       ∙ sym (g.rest_seen (text ∷ next.0))
       ∙ ap (λ (xs : Shows). g.seen ++ xs) (heard_then w step text next.0 s s' (no_quit_commit text commits) refl) ∙ sym (append_assoc g.seen hear later) in
-      next_told all before.1 now.1 g.seen hear later told.before shown (told.is_told ∙ ap (λ (xs : Shows). told.before ++ xs) whole) told.is_before g.adds.1
+      next_told w step start all before.1 now.1 g.seen hear later told.before shown (told.is_told ∙ ap (λ (xs : Shows). told.before ++ xs) whole) told.is_before g.adds.1
       (ap (λ (is : Bool). heard_where is shown) commits)

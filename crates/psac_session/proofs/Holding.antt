@@ -1,13 +1,13 @@
 -- The places of a session, from one naming of handles to another.
-use Rattle.std.proofs.Common.{◌≡◌, ◌∙◌, ℕ, zero, suc, ◌==◌, ◌&&◌, Bool, true, false, if◌then◌else◌, List, [], ◌∷◌, inl, inr, Option, Some, None, refl, sym, ap, map, option_map}
-use Rattle.std.specs.Prelude.{replicate, slice_get, slice_set}
+use Rattle.std.proofs.Common.{◌≡◌, ◌∙◌, ℕ, zero, suc, ◌==◌, Bool, true, false, if◌then◌else◌, List, [], ◌∷◌, inl, inr, Option, Some, None, refl, sym, ap, map, option_map}
+use Rattle.std.specs.Prelude.{replicate, slice_set}
 use Rattle.psac_ops.specs.declared.plain.Handle.{Handle}
 use Rattle.psac_ops.specs.Named.{same_handle}
-use Rattle.psac_model.specs.Names.{Path, Name, Input, Out, Rows, Made}
+use Rattle.psac_model.specs.Names.{Name}
 use Rattle.psac_naming.specs.Naming.{Naming, IsNamed}
 use Rattle.psac_naming.proofs.Names.{nat_same, nat_is, and_is}
 use Rattle.psac_report.specs.Session.{Place, Holding, Gone, gone_stale, place_count}
-use Rattle.psac_session.specs.Holding.{name_among, place_of, place_among, places_among, none_held, IsKnown, AreKnown, made_where}
+use Rattle.psac_session.specs.Holding.{name_among, place_of, place_among, places_among, none_held, IsKnown, AreKnown}
 
 handle_is : (g h : Handle) → same_handle g h ≡ true → g ≡ h
 handle_is g h same =

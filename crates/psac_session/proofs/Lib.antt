@@ -8,6 +8,7 @@ pub mod Adding
 pub mod Turn
 pub mod Told
 pub mod Taken
+pub mod Fed
 pub mod Ended
 pub mod FirstText
 pub mod Reports

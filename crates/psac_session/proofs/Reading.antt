@@ -15,7 +15,7 @@ use Rattle.psac_model.specs.Fresh.{grid_heap}
 use Rattle.psac_model.specs.Run.{Ran}
 use Rattle.psac_naming.specs.Alike.{Alike, Both}
 use Rattle.psac_naming.specs.Naming.{Naming, IsNamed}
-use Rattle.psac_report.specs.Session.{Place, Reply, State, value_at, value_in, value_of_place, value_or_none}
+use Rattle.psac_report.specs.Session.{State, value_at, value_in, value_of_place, value_or_none}
 use Rattle.psac_script.specs.declared.reply.Reply.{Reply as Answer}
 use Rattle.psac_script.specs.declared.reply.Reply.TheVariants as answer
 use Rattle.psac_naming.proofs.Names.{name_is}
@@ -25,7 +25,7 @@ use Rattle.psac_engine.specs.declared.held.Held.{Held}
 use Rattle.psac_engine.specs.declared.held.Held.TheVariants as told
 use Rattle.psac_engine.specs.Engine.{grid_in, kept_in}
 use Rattle.psac_engine.specs.Held.{Names, Tells, names_in}
-use Rattle.psac_session.specs.Holding.{name_among, place_of, place_among, places_among}
+use Rattle.psac_session.specs.Holding.{name_among, place_of, place_among}
 use Rattle.psac_session.specs.Read.{IsPart, IsRead, handle_of, name_of}
 use Rattle.psac_session.specs.declared.hold.Part.{Part}
 use Rattle.psac_session.specs.declared.hold.Part.TheVariants.{Referred, First, Second}

@@ -6,7 +6,7 @@ use Rattle.std.proofs.lemmas.List.{append-nil, drop_at, drop-take, take-append-l
 use Rattle.std.proofs.lemmas.List.Folds.{list_any-append}
 use Rattle.std.proofs.Math.ListN.{get_or-append}
 use Rattle.psac_base.specs.Feeds.{lines_of, line_text}
-use Rattle.psac_base.specs.Lines.{EndsAtEnd, GivesLast, GivesLine, GivesWhole, Grew}
+use Rattle.psac_base.specs.Lines.{EndsAtEnd, GivesLast, GivesWhole, Grew}
 use Rattle.psac_base.proofs.Splits.{last_is_last, whole_is_next}
 use Rattle.psac_model.specs.Fresh.{World}
 use Rattle.psac_report.specs.Script.{command_of}
@@ -151,7 +151,7 @@ pub heard_then : (w : World) (step : Step) (text : List ℕ) (more : List (List 
 heard_then w step text more s s' other state_is = shows_next w step text more s other ∙ rw state_is refl
 
 -- a whole line was answered
-went_on : (w : World) (step : Step) (start : State) (bytes text out : List ℕ) (from to : ℕ) (s s' : State) (before now after : Outward)
+pub went_on : (w : World) (step : Step) (start : State) (bytes text out : List ℕ) (from to : ℕ) (s s' : State) (before now after : Outward)
     → is_quit text ≡ false → s' ≡ (step s (command_of text)).0 → out ≡ text_of w (step s (command_of text)) → GivesWhole bytes from to text
     → Going w step start bytes from s before now → Adds now after out (heard_by w (command_of text) s') → Going w step start bytes to s' before after
 went_on w step start bytes text out from to s s' before now after other state_is out_is whole going wrote = record {
@@ -177,7 +177,7 @@ went_on w step start bytes text out from to s s' before now after other state_is
 }
 
 -- the last line was answered
-finished : (w : World) (step : Step) (start : State) (bytes text out : List ℕ) (from to : ℕ) (ended : Bool) (s s' : State) (before now after : Outward)
+pub finished : (w : World) (step : Step) (start : State) (bytes text out : List ℕ) (from to : ℕ) (ended : Bool) (s s' : State) (before now after : Outward)
     → is_quit text ≡ false → s' ≡ (step s (command_of text)).0 → out ≡ text_of w (step s (command_of text)) → ended ≡ true → GivesLast bytes from to text
     → Going w step start bytes from s before now → Adds now after out (heard_by w (command_of text) s') → Over w step start bytes to ended before after
 finished w step start bytes text out from to ended s s' before now after other state_is out_is at_end last going wrote =
@@ -196,43 +196,6 @@ finished w step start bytes text out from to ended s s' before now after other s
       at_end = at_end;
     }
 
--- a line was given and answered
-pub turn : (w : World) (step : Step) (start : State) (bytes bytes' : List ℕ) (left left' : Option (List ℕ)) (n n' given given' : ℕ) (ended ended' : Bool) (before now after : Outward) (text out : List ℕ) (s s' : State)
-    → Grew bytes bytes' left left' n n' → (ended ≡ true → bytes' ≡ bytes) → GivesLine bytes' given given' ended' text
-    → is_quit text ≡ false → s' ≡ (step s (command_of text)).0 → out ≡ text_of w (step s (command_of text)) → Adds now after out (heard_by w (command_of text) s')
-    → Going w step start bytes given s before now ⊎ Over w step start bytes given ended before now
-    → Going w step start bytes' given' s' before after ⊎ Over w step start bytes' given' ended' before after
-turn w step start bytes bytes' left left' n n' given given' ended ended' before now after text out s s' grew still (inl whole) other state_is out_is wrote (inl going) =
-    inl (went_on w step start bytes' text out given given' s s' before now after other state_is out_is whole
-    (grown w step start bytes grew.got bytes' given s before now grew.bytes going) wrote)
-turn w step start bytes bytes' left left' n n' given given' ended ended' before now after text out s s' grew still (inr last) other state_is out_is wrote (inl going) =
-    inr (finished w step start bytes' text out given given' ended' s s' before now after other state_is out_is last.0 last.1
-    (grown w step start bytes grew.got bytes' given s before now grew.bytes going) wrote)
-turn w step start bytes bytes' left left' n n' given given' ended ended' before now after text out s s' grew still (inl whole) other state_is out_is wrote (inr over) =
-    absurd (omega (arith, ap length (still over.at_end), over.all, whole.is_end.low, whole.is_end.high))
-turn w step start bytes bytes' left left' n n' given given' ended ended' before now after text out s s' grew still (inr last) other state_is out_is wrote (inr over) =
-    absurd (omega (arith, ap length (still over.at_end), over.all, last.1.some))
-
--- where a line was given, the last one wasn't answered before
-pub not_over : (w : World) (step : Step) (start : State) (bytes bytes' : List ℕ) (given given' : ℕ) (ended ended' : Bool) (before now : Outward) (text : List ℕ)
-    → (ended ≡ true → bytes' ≡ bytes) → GivesLine bytes' given given' ended' text → Over w step start bytes given ended before now → ⊥
-not_over w step start bytes bytes' given given' ended ended' before now text still (inl whole) over =
-    omega (arith, ap length (still over.at_end), over.all, whole.is_end.low, whole.is_end.high)
-not_over w step start bytes bytes' given given' ended ended' before now text still (inr last) over =
-    omega (arith, ap length (still over.at_end), over.all, last.1.some)
-
--- nor where there was no answer to whether there is one
-pub not_ended : (w : World) (step : Step) (start : State) (bytes bytes' : List ℕ) (left' : Option (List ℕ)) (given : ℕ) (ended ended' : Bool) (before now : Outward)
-    → (ended ≡ true → bytes' ≡ bytes) → EndsAtEnd ended ended' left' → ((ended' ≡ true) × (given ≡ length bytes') → ⊥) → Over w step start bytes given ended before now → ⊥
-not_ended w step start bytes bytes' left' given ended ended' before now still (inl same) open_ over =
-    open_ (same ∙ over.at_end, over.all ∙ sym (ap length (still over.at_end)))
-not_ended w step start bytes bytes' left' given ended ended' before now still (inr noted) open_ over =
-    open_ (noted.0, over.all ∙ sym (ap length (still over.at_end)))
-
-pub still_going : (A B : Type 0) → (B → ⊥) → A ⊎ B → A
-still_going A B none (inl a) = a
-still_going A B none (inr b) = absurd (none b)
-
 -- a noted end is the source's
 pub end_noted : (ended ended' : Bool) (left left' : Option (List ℕ)) → EndsAtEnd ended ended' left' → (ended ≡ true → IsAtEnd left) → (ended ≡ true → left' ≡ left)
     → ended' ≡ true → IsAtEnd left'
@@ -250,6 +213,3 @@ Consumes-more (Some a) (Some b) (Some c) xs ys before after = rw (append_assoc x
 pub took_all : (bytes bytes' : List ℕ) (first left left' : Option (List ℕ)) (n n' : ℕ) → Grew bytes bytes' left left' n n'
     → Consumes first left bytes → Consumes first left' bytes'
 took_all bytes bytes' first left left' n n' grew took = rw grew.bytes (Consumes-more first left left' bytes grew.got took grew.source)
-
-pub counted : (bytes bytes' : List ℕ) (left left' : Option (List ℕ)) (n0 n n' : ℕ) → Grew bytes bytes' left left' n n' → n ≡ n0 + length bytes → n' ≡ n0 + length bytes'
-counted bytes bytes' left left' n0 n n' grew count = omega (arith, grew.count, count, ap length grew.bytes, length-append bytes grew.got)

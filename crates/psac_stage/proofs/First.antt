@@ -60,36 +60,22 @@ use Rattle.psac_stage.proofs.Grounds.{stood}
 use Rattle.psac_stage.proofs.Known.{known_seen, has_told}
 use Rattle.psac_stage.proofs.Members.{in_counted}
 use Rattle.psac_stage.proofs.Mendable.{families_same}
+use Rattle.psac_stage.proofs.Paths.{same_node, node_same, node_is}
 
 -- own nodes that are the same
-abbrev same_parent : Option ℕ → Option ℕ → Bool
-same_parent None None = true
-same_parent (Some x) (Some y) = x == y
-same_parent _ _ = false
-
-parent_same : (o : Option ℕ) → same_parent o o ≡ true
-parent_same None = refl
-parent_same (Some x) = nat_same x
-
-parent_is : (o p : Option ℕ) → same_parent o p ≡ true → o ≡ p
-parent_is None None h = refl
-parent_is (Some x) (Some y) h = ap (λ (n : ℕ). Some n) (nat_is x y h)
-parent_is None (Some y) h = absurd cc
-parent_is (Some x) None h = absurd cc
-
 abbrev pub same_own : OwnView → OwnView → ℕ
-same_own o x = cond (same_handle x.node o.node) (cond (same_parent x.parent o.parent) 1 0) 0
+same_own o x = cond (same_handle x.node o.node) (cond (same_node x.parent o.parent) 1 0) 0
 
 pub own_itself : (o : OwnView) → same_own o o ≡ 1
-own_itself o = rw (handles_told.itself o.node, parent_same o.parent) refl
+own_itself o = rw (handles_told.itself o.node, node_same o.parent) refl
 
 pub own_is : (o x : OwnView) → 0 < same_own o x → x ≡ o
 own_is o x h =
     elim (test_or (same_handle x.node o.node)) [
       | inl p ↦
-          elim (test_or (same_parent x.parent o.parent)) [
+          elim (test_or (same_node x.parent o.parent)) [
             | inl q ↦ ap (λ z. record { node = z; parent = x.parent }) (handles_told.alone x.node o.node p) ∙ ap
-                (λ z. record { node = o.node; parent = z }) (parent_is x.parent o.parent q)
+                (λ z. record { node = o.node; parent = z }) (node_is x.parent o.parent q)
             | inr q ↦ absurd (let z : 0 < 0 = rw (p, q) at h in omega (arith, z))
           ]
       | inr p ↦ absurd (let z : 0 < 0 = rw p at h in omega (arith, z))

@@ -24,16 +24,16 @@ use Rattle.psac_stage.specs.Recorded.{HasNodes, HasLinks}
 
 -- live links that are the same
 
-abbrev same_node : Option ℕ → Option ℕ → Bool
+abbrev pub same_node : Option ℕ → Option ℕ → Bool
 same_node None None = true
 same_node (Some x) (Some y) = x == y
 same_node _ _ = false
 
-node_same : (o : Option ℕ) → same_node o o ≡ true
+pub node_same : (o : Option ℕ) → same_node o o ≡ true
 node_same None = refl
 node_same (Some x) = nat_same x
 
-node_is : (o p : Option ℕ) → same_node o p ≡ true → o ≡ p
+pub node_is : (o p : Option ℕ) → same_node o p ≡ true → o ≡ p
 node_is None None h = refl
 node_is (Some x) (Some y) h = ap (λ (n : ℕ). Some n) (nat_is x y h)
 node_is None (Some y) h = absurd cc

@@ -287,6 +287,13 @@ edited_next g b i e cols v u sound goes is same s d =
 pub put_numbers : (b : Batch) (g : Grid) → ((put_all b g).room ≡ g.room) × ((put_all b g).cols ≡ g.cols)
 put_numbers b g = (room_kept b.edits g, cols_kept b.edits g)
 
+-- so it goes into the grid that it was put into by its room and its columns
+pub room_goes : (b : Batch) (g h : Grid) → GoesInto b g → h ≡ put_all b g → b.room ≡ h.room
+room_goes b g h goes is = goes.room ∙ sym (put_numbers b g).0 ∙ sym (ap (λ (z : Grid). z.room) is)
+
+pub cols_goes : (b : Batch) (g h : Grid) → GoesInto b g → h ≡ put_all b g → b.cols ≡ h.cols
+cols_goes b g h goes is = goes.cols ∙ sym (put_numbers b g).1 ∙ sym (ap (λ (z : Grid). z.cols) is)
+
 pub put_cells_same : (b : Batch) (g : Grid) (v : ValueView) → HasCells (with_edits b.edits g) v → HasCells (put_all b g) v
 put_cells_same b g v has = has
 

@@ -1,18 +1,17 @@
 use Rattle.std.proofs.Common.{◌≡◌, ◌<◌, length, arith, rules, inl, sym, ◌∙◌, ap, refl, subst, true, false}
-use Rattle.psac_base.specs.Lines.{bytes_of, given_of, has_ended, is_live}
-use Rattle.psac_report.specs.Script.{command_of}
+use Rattle.psac_base.specs.Lines.{bytes_of, given_of, is_live}
 use Rattle.psac_report.specs.Steps.{is_quit}
 use Rattle.psac_report.specs.Session.{step_of}
 use Rattle.psac_engine.specs.Engine.{caps_in, world_in}
 use Rattle.psac_session.specs.Heard.{Outward}
 use Rattle.psac_session.specs.Handles.{state_in}
 use Rattle.psac_session.specs.State.{opening}
-use Rattle.psac_session.specs.Turned.{text_of}
 use Rattle.psac_session.proofs.Adding.{room_left}
 use Rattle.psac_session.proofs.Goes.{state_begins}
-use Rattle.psac_session.proofs.Taken.{adds_at, broke_at, expected_at, took_at}
+use Rattle.psac_session.proofs.Taken.{broke_at, expected_at, took_at}
 use Rattle.psac_session.proofs.Told.{given_more, rose_since, smaller}
-use Rattle.psac_session.proofs.Turn.{Going, begins, counted, end_noted, not_ended, not_over, still_going, took_all, turn}
+use Rattle.psac_session.proofs.Turn.{Going, begins}
+use Rattle.psac_session.proofs.Fed.{fed, going_on, going_yet, turn}
 use Rattle.psac_session.proofs.Ended.{breaks, consumes_nil, ends, foreseen, nothing, part_going, part_wrote, quits, quits_read, too_long, whole_part}
 use Rattle.psac_session.proofs.turns.session_with.Goals as goal
 
@@ -51,14 +50,11 @@ turns-init g c =
 
 pub take_line-requires-clause-room : goal.take_line-requires-clause-room
 take_line-requires-clause-room g c = λ _ _.
-    let e = c.args.engine.now in
-    let w = world_in e in
-    let step = step_of w (caps_in e) in
-    let start = opening e c.args.texts.now in
     let i = c.turns.invariant in
     let n = c.in-Ok-true.ensures in
+    let f = fed c.args.engine.now c.args.texts.now g.S.Source.left n.still n.grew n.ended i.source i.count i.at_end i.state in
     let line = n.line (search rules) in
-    let going = still_going _ _ (not_over w step start _ _ _ _ _ _ _ _ _ (λ over. (n.still over).1) line) i.state in
+    let going = going_on f.state line in
     let live : is_live c.next_line.new.self ≡ true = search rules in
     let short : length (bytes_of c.next_line.new.self) < 16777217 =
     omega (arith, c.next_line.new.self.short live, c.next_line.new.self.bytes.ok) in
@@ -67,37 +63,24 @@ take_line-requires-clause-room g c = λ _ _.
 
 pub take_line-requires-clause-expected : goal.take_line-requires-clause-expected
 take_line-requires-clause-expected g c = λ _ _.
-    let e = c.args.engine.now in
-    let w = world_in e in
-    let step = step_of w (caps_in e) in
-    let start = opening e c.args.texts.now in
     let i = c.turns.invariant in
     let n = c.in-Ok-true.ensures in
-    let took = took_all _ _ _ _ _ _ _ n.grew i.source in
-    let line = n.line (search rules) in
-    let at_end = end_noted _ _ _ _ n.ended i.at_end (λ over. ap g.S.Source.left (n.still over).0) in
-    let going = still_going _ _ (not_over w step start _ _ _ _ _ _ _ _ _ (λ over. (n.still over).1) line) i.state in
-    let s = state_in c.turns.engine c.turns.desk c.turns.texts in
-    let now : Outward = (g.K.Sink.held c.turns.out, g.L.Listener.heard c.turns.listener) in
-    expected_at (world_in c.turns.engine) w (caps_in c.turns.engine) (caps_in e) s _ _ _ _ _ i.world i.caps c.deref.ensures.value i.course
-    (foreseen w step start _ _ _ _ _ _ _ _ _ _ s _ now c.next_line.new.line.items (g.L.Listener.course c.args.listener.now) n.grew took at_end line c.requires.course going)
+    let f = fed c.args.engine.now c.args.texts.now g.S.Source.left n.still n.grew n.ended i.source i.count i.at_end i.state in
+    let e = c.turns.engine in
+    expected_at (world_in e) _ (caps_in e) (caps_in c.args.engine.now) (state_in e c.turns.desk c.turns.texts) _ _ _ _ _
+    i.world i.caps c.deref.ensures.value i.course
+    (foreseen f _ _ (g.L.Listener.course c.args.listener.now) (n.line (search rules)) c.requires.course)
 
 pub returns-in-SinkFailed-clause-part : goal.returns-in-SinkFailed-clause-part
 returns-in-SinkFailed-clause-part g c =
-    let e = c.args.engine.now in
-    let w = world_in e in
-    let step = step_of w (caps_in e) in
-    let start = opening e c.args.texts.now in
     let i = c.turns.invariant in
     let n = c.in-Ok-true.ensures in
-    let took = took_all _ _ _ _ _ _ _ n.grew i.source in
-    let line = n.line (search rules) in
-    let at_end = end_noted _ _ _ _ n.ended i.at_end (λ over. ap g.S.Source.left (n.still over).0) in
-    let going = still_going _ _ (not_over w step start _ _ _ _ _ _ _ _ _ (λ over. (n.still over).1) line) i.state in
-    let these = c.next_line.new.line.items in
-    let s = state_in c.turns.engine c.turns.desk c.turns.texts in
-    let broke = broke_at (world_in c.turns.engine) w (caps_in c.turns.engine) (caps_in e) s c.deref.result.now these _ _ i.world i.caps c.deref.ensures.value (c.in-SinkFailed.ensures.part refl) in
-    part_wrote w step start _ _ _ _ _ _ _ _ _ _ s _ _ _ these n.grew took at_end line broke going
+    let f = fed c.args.engine.now c.args.texts.now g.S.Source.left n.still n.grew n.ended i.source i.count i.at_end i.state in
+    let e = c.turns.engine in
+    let broke =
+    broke_at (world_in e) _ (caps_in e) (caps_in c.args.engine.now) (state_in e c.turns.desk c.turns.texts) _ _ _ _ i.world i.caps
+    c.deref.ensures.value (c.in-SinkFailed.ensures.part refl) in
+    part_wrote f _ _ _ (n.line (search rules)) broke
 
 pub returns-in-SinkFailed-clause-sink : goal.returns-in-SinkFailed-clause-sink
 returns-in-SinkFailed-clause-sink g c = λ _. rose_since _ _ _ c.turns.invariant.later_out (c.in-SinkFailed.ensures.sink refl)
@@ -113,29 +96,22 @@ turns-smaller g c =
 
 pub turns-preserved : goal.turns-preserved
 turns-preserved g c =
-    let e = c.args.engine.now in
-    let w = world_in e in
-    let step = step_of w (caps_in e) in
-    let start = opening e c.args.texts.now in
     let i = c.turns.invariant in
     let n = c.in-Ok-true.ensures in
-    let took = took_all _ _ _ _ _ _ _ n.grew i.source in
+    let f = fed c.args.engine.now c.args.texts.now g.S.Source.left n.still n.grew n.ended i.source i.count i.at_end i.state in
+    let e = c.turns.engine in
     let line = n.line (search rules) in
-    let these = c.next_line.new.line.items in
-    let s = state_in c.turns.engine c.turns.desk c.turns.texts in
-    let s' = state_in c.take_line.new.engine c.take_line.new.desk c.take_line.new.texts in
-    let now : Outward = (g.K.Sink.held c.turns.out, g.L.Listener.heard c.turns.listener) in
-    let after : Outward = (g.K.Sink.held c.take_line.new.out, g.L.Listener.heard c.take_line.new.listener) in
-    let took_line = took_at (world_in c.turns.engine) w (caps_in c.turns.engine) (caps_in e) s s' c.deref.result.now these now after i.world i.caps c.deref.ensures.value (c.in-On.ensures.on refl) in
+    let took =
+    took_at (world_in e) _ (caps_in e) (caps_in c.args.engine.now) (state_in e c.turns.desk c.turns.texts)
+    (state_in c.take_line.new.engine c.take_line.new.desk c.take_line.new.texts) _ _ _ _ i.world i.caps c.deref.ensures.value
+    (c.in-On.ensures.on refl) in
     let more = given_more _ _ _ _ _ line in
-    let adds = adds_at w step s s' these now after took_line in
     record {
       live = search rules;
-      state = turn w step start _ _ _ _ _ _ _ _ _ _ _ _ _ these (text_of w (step s (command_of these))) s s' n.grew (λ over. (n.still over).1) line took_line.other took_line.state refl
-          adds i.state;
-      source = took;
-      count = counted _ _ _ _ _ _ _ n.grew i.count;
-      at_end = end_noted _ _ _ _ n.ended i.at_end (λ over. ap g.S.Source.left (n.still over).0);
+      state = turn line took (going_on f.state line);
+      source = f.took;
+      count = f.count;
+      at_end = f.at_end;
       later = omega (arith, n.later, i.later);
       later_out = omega (arith, c.take_line.ensures.later, i.later_out);
       few = omega (arith, i.few, c.take_line.ensures.commits, more);
@@ -148,175 +124,93 @@ turns-preserved g c =
 
 pub returns-in-Quit-clause-done : goal.returns-in-Quit-clause-done
 returns-in-Quit-clause-done g c = λ _.
-    let e = c.args.engine.now in
-    let w = world_in e in
-    let step = step_of w (caps_in e) in
-    let start = opening e c.args.texts.now in
     let i = c.turns.invariant in
     let n = c.in-Ok-true.ensures in
-    let took = took_all _ _ _ _ _ _ _ n.grew i.source in
-    let line = n.line (search rules) in
-    let at_end = end_noted _ _ _ _ n.ended i.at_end (λ over. ap g.S.Source.left (n.still over).0) in
-    let going = still_going _ _ (not_over w step start _ _ _ _ _ _ _ _ _ (λ over. (n.still over).1) line) i.state in
-    let these = c.next_line.new.line.items in
-    let s = state_in c.turns.engine c.turns.desk c.turns.texts in
+    let f = fed c.args.engine.now c.args.texts.now g.S.Source.left n.still n.grew n.ended i.source i.count i.at_end i.state in
     let end = c.in-Quit.ensures.quit refl in
-    let quit : is_quit these ≡ true = rw c.deref.ensures.value at end.0 in
-    rw (← end.1, ← end.2) at (quits w step start _ _ _ _ _ _ _ _ _ _ s _ _ these n.grew took at_end line quit going)
+    let quit : is_quit c.next_line.new.line.items ≡ true = rw c.deref.ensures.value at end.0 in
+    rw (← end.1, ← end.2) at (quits f _ _ (n.line (search rules)) quit)
 
 pub returns-in-Quit-clause-read : goal.returns-in-Quit-clause-read
 returns-in-Quit-clause-read g c = λ _.
-    let e = c.args.engine.now in
-    let w = world_in e in
-    let step = step_of w (caps_in e) in
-    let start = opening e c.args.texts.now in
     let i = c.turns.invariant in
     let n = c.in-Ok-true.ensures in
-    let took = took_all _ _ _ _ _ _ _ n.grew i.source in
-    let line = n.line (search rules) in
-    let at_end = end_noted _ _ _ _ n.ended i.at_end (λ over. ap g.S.Source.left (n.still over).0) in
-    let going = still_going _ _ (not_over w step start _ _ _ _ _ _ _ _ _ (λ over. (n.still over).1) line) i.state in
-    let these = c.next_line.new.line.items in
-    let s = state_in c.turns.engine c.turns.desk c.turns.texts in
+    let f = fed c.args.engine.now c.args.texts.now g.S.Source.left n.still n.grew n.ended i.source i.count i.at_end i.state in
     let end = c.in-Quit.ensures.quit refl in
-    let quit : is_quit these ≡ true = rw c.deref.ensures.value at end.0 in
-    quits_read w step start _ _ _ _ _ _ _ _ _ _ _ _ s _ _ these n.grew took (counted _ _ _ _ _ _ _ n.grew i.count) at_end line quit going
+    let quit : is_quit c.next_line.new.line.items ≡ true = rw c.deref.ensures.value at end.0 in
+    quits_read f _ _ (n.line (search rules)) quit
 
 pub returns-in-Quit-clause-part : goal.returns-in-Quit-clause-part
 returns-in-Quit-clause-part g c =
-    let e = c.args.engine.now in
-    let w = world_in e in
-    let step = step_of w (caps_in e) in
-    let start = opening e c.args.texts.now in
     let i = c.turns.invariant in
     let n = c.in-Ok-true.ensures in
-    let took = took_all _ _ _ _ _ _ _ n.grew i.source in
-    let line = n.line (search rules) in
-    let at_end = end_noted _ _ _ _ n.ended i.at_end (λ over. ap g.S.Source.left (n.still over).0) in
-    let going = still_going _ _ (not_over w step start _ _ _ _ _ _ _ _ _ (λ over. (n.still over).1) line) i.state in
+    let f = fed c.args.engine.now c.args.texts.now g.S.Source.left n.still n.grew n.ended i.source i.count i.at_end i.state in
     let end = c.in-Quit.ensures.quit refl in
-    rw (← end.1, ← end.2) at (part_going w step start _ _ _ _ _ _ _ _ _ _ _ n.grew took going)
+    rw (← end.1, ← end.2) at (part_going f (going_on f.state (n.line (search rules))))
 
 pub returns-in-NoMemory-clause-part : goal.returns-in-NoMemory-clause-part
 returns-in-NoMemory-clause-part g c =
-    let e = c.args.engine.now in
-    let w = world_in e in
-    let step = step_of w (caps_in e) in
-    let start = opening e c.args.texts.now in
     let i = c.turns.invariant in
     let n = c.in-Ok-true.ensures in
-    let took = took_all _ _ _ _ _ _ _ n.grew i.source in
-    let line = n.line (search rules) in
-    let at_end = end_noted _ _ _ _ n.ended i.at_end (λ over. ap g.S.Source.left (n.still over).0) in
-    let going = still_going _ _ (not_over w step start _ _ _ _ _ _ _ _ _ (λ over. (n.still over).1) line) i.state in
+    let f = fed c.args.engine.now c.args.texts.now g.S.Source.left n.still n.grew n.ended i.source i.count i.at_end i.state in
     let end = c.in-NoMemory.ensures.memory refl in
-    rw (← end.0, ← end.1) at (part_going w step start _ _ _ _ _ _ _ _ _ _ _ n.grew took going)
+    rw (← end.0, ← end.1) at (part_going f (going_on f.state (n.line (search rules))))
 
 pub returns-in-Ok-false-clause-done : goal.returns-in-Ok-false-clause-done
 returns-in-Ok-false-clause-done g c = λ _.
-    let e = c.args.engine.now in
-    let w = world_in e in
-    let step = step_of w (caps_in e) in
-    let start = opening e c.args.texts.now in
     let i = c.turns.invariant in
     let n = c.in-Ok-false.ensures in
-    let took = took_all _ _ _ _ _ _ _ n.grew i.source in
+    let f = fed c.args.engine.now c.args.texts.now g.S.Source.left n.still n.grew n.ended i.source i.count i.at_end i.state in
     let end = n.end.0 (search rules) in
-    let at_end = end_noted _ _ _ _ n.ended i.at_end (λ over. ap g.S.Source.left (n.still over).0) end.0 in
-    ends w step start _ _ _ _ _ _ _ _ _ _ _ _ n.grew took (λ over. (n.still over).1) end.1 at_end i.state
+    ends f end.1 (f.at_end end.0)
 
 pub returns-in-Ok-false-clause-read : goal.returns-in-Ok-false-clause-read
 returns-in-Ok-false-clause-read g c = λ _.
-    let e = c.args.engine.now in
-    let w = world_in e in
-    let step = step_of w (caps_in e) in
-    let start = opening e c.args.texts.now in
     let i = c.turns.invariant in
     let n = c.in-Ok-false.ensures in
-    let took = took_all _ _ _ _ _ _ _ n.grew i.source in
+    let f = fed c.args.engine.now c.args.texts.now g.S.Source.left n.still n.grew n.ended i.source i.count i.at_end i.state in
     let end = n.end.0 (search rules) in
-    let at_end = end_noted _ _ _ _ n.ended i.at_end (λ over. ap g.S.Source.left (n.still over).0) end.0 in
-    record { bytes = bytes_of c.next_line.new.self; took = took; count = counted _ _ _ _ _ _ _ n.grew i.count; stop = inl at_end }
+    record { bytes = bytes_of c.next_line.new.self; took = f.took; count = f.count; stop = inl (f.at_end end.0) }
 
 pub returns-in-Ok-false-clause-part : goal.returns-in-Ok-false-clause-part
 returns-in-Ok-false-clause-part g c =
-    let e = c.args.engine.now in
-    let w = world_in e in
-    let step = step_of w (caps_in e) in
-    let start = opening e c.args.texts.now in
     let i = c.turns.invariant in
     let n = c.in-Ok-false.ensures in
-    let took = took_all _ _ _ _ _ _ _ n.grew i.source in
+    let f = fed c.args.engine.now c.args.texts.now g.S.Source.left n.still n.grew n.ended i.source i.count i.at_end i.state in
     let end = n.end.0 (search rules) in
-    let at_end = end_noted _ _ _ _ n.ended i.at_end (λ over. ap g.S.Source.left (n.still over).0) end.0 in
-    whole_part _ _ _ _ _ (ends w step start _ _ _ _ _ _ _ _ _ _ _ _ n.grew took (λ over. (n.still over).1) end.1 at_end i.state)
+    whole_part _ _ _ _ _ (ends f end.1 (f.at_end end.0))
 
 pub returns-in-Err-Failed-clause-part : goal.returns-in-Err-Failed-clause-part
 returns-in-Err-Failed-clause-part g c =
-    let e = c.args.engine.now in
-    let w = world_in e in
-    let step = step_of w (caps_in e) in
-    let start = opening e c.args.texts.now in
     let i = c.turns.invariant in
     let n = c.in-Err-Failed.ensures in
-    let took = took_all _ _ _ _ _ _ _ n.grew i.source in
-    let open_ : (has_ended c.next_line.new.self ≡ true) × (given_of c.turns.lines ≡ length (bytes_of c.next_line.new.self)) → ⊥ =
-    λ both. let bad = n.end.1 both in cc in
-    let going = still_going _ _ (not_ended w step start _ _ _ _ _ _ _ _ (λ over. (n.still over).1) n.ended open_) i.state in
-    part_going w step start _ _ _ _ _ _ _ _ _ _ _ n.grew took going
+    let f = fed c.args.engine.now c.args.texts.now g.S.Source.left n.still n.grew n.ended i.source i.count i.at_end i.state in
+    part_going f (going_yet f.state (λ both. let bad = n.end.1 both in cc))
 
 pub returns-in-Err-TooLong-clause-part : goal.returns-in-Err-TooLong-clause-part
 returns-in-Err-TooLong-clause-part g c =
-    let e = c.args.engine.now in
-    let w = world_in e in
-    let step = step_of w (caps_in e) in
-    let start = opening e c.args.texts.now in
     let i = c.turns.invariant in
     let n = c.in-Err-TooLong.ensures in
-    let took = took_all _ _ _ _ _ _ _ n.grew i.source in
-    let open_ : (has_ended c.next_line.new.self ≡ true) × (given_of c.turns.lines ≡ length (bytes_of c.next_line.new.self)) → ⊥ =
-    λ both. let bad = n.end.1 both in cc in
-    let going = still_going _ _ (not_ended w step start _ _ _ _ _ _ _ _ (λ over. (n.still over).1) n.ended open_) i.state in
-    part_going w step start _ _ _ _ _ _ _ _ _ _ _ n.grew took going
+    let f = fed c.args.engine.now c.args.texts.now g.S.Source.left n.still n.grew n.ended i.source i.count i.at_end i.state in
+    part_going f (going_yet f.state (λ both. let bad = n.end.1 both in cc))
 
 pub returns-in-Err-NoMemory-clause-part : goal.returns-in-Err-NoMemory-clause-part
 returns-in-Err-NoMemory-clause-part g c =
-    let e = c.args.engine.now in
-    let w = world_in e in
-    let step = step_of w (caps_in e) in
-    let start = opening e c.args.texts.now in
     let i = c.turns.invariant in
     let n = c.in-Err-NoMemory.ensures in
-    let took = took_all _ _ _ _ _ _ _ n.grew i.source in
-    let open_ : (has_ended c.next_line.new.self ≡ true) × (given_of c.turns.lines ≡ length (bytes_of c.next_line.new.self)) → ⊥ =
-    λ both. let bad = n.end.1 both in cc in
-    let going = still_going _ _ (not_ended w step start _ _ _ _ _ _ _ _ (λ over. (n.still over).1) n.ended open_) i.state in
-    part_going w step start _ _ _ _ _ _ _ _ _ _ _ n.grew took going
+    let f = fed c.args.engine.now c.args.texts.now g.S.Source.left n.still n.grew n.ended i.source i.count i.at_end i.state in
+    part_going f (going_yet f.state (λ both. let bad = n.end.1 both in cc))
 
 pub returns-in-Err-Failed-clause-broken : goal.returns-in-Err-Failed-clause-broken
 returns-in-Err-Failed-clause-broken g c = λ _.
-    let e = c.args.engine.now in
-    let w = world_in e in
-    let step = step_of w (caps_in e) in
-    let start = opening e c.args.texts.now in
     let i = c.turns.invariant in
     let n = c.in-Err-Failed.ensures in
-    let took = took_all _ _ _ _ _ _ _ n.grew i.source in
-    let open_ : (has_ended c.next_line.new.self ≡ true) × (given_of c.turns.lines ≡ length (bytes_of c.next_line.new.self)) → ⊥ =
-    λ both. let bad = n.end.1 both in cc in
-    let going = still_going _ _ (not_ended w step start _ _ _ _ _ _ _ _ (λ over. (n.still over).1) n.ended open_) i.state in
-    breaks w step start _ _ _ _ _ _ _ _ _ _ _ n.grew took (n.given (search rules)) going
+    let f = fed c.args.engine.now c.args.texts.now g.S.Source.left n.still n.grew n.ended i.source i.count i.at_end i.state in
+    breaks f (n.given (search rules)) (going_yet f.state (λ both. let bad = n.end.1 both in cc))
 
 pub returns-in-Err-TooLong-clause-much : goal.returns-in-Err-TooLong-clause-much
 returns-in-Err-TooLong-clause-much g c = λ _.
-    let e = c.args.engine.now in
-    let w = world_in e in
-    let step = step_of w (caps_in e) in
-    let start = opening e c.args.texts.now in
     let i = c.turns.invariant in
     let n = c.in-Err-TooLong.ensures in
-    let took = took_all _ _ _ _ _ _ _ n.grew i.source in
-    let open_ : (has_ended c.next_line.new.self ≡ true) × (given_of c.turns.lines ≡ length (bytes_of c.next_line.new.self)) → ⊥ =
-    λ both. let bad = n.end.1 both in cc in
-    let going = still_going _ _ (not_ended w step start _ _ _ _ _ _ _ _ (λ over. (n.still over).1) n.ended open_) i.state in
-    too_long w step start _ _ _ _ _ _ _ _ _ _ _ n.grew took (n.long.0 (search rules)) (n.before (search rules)) going
+    let f = fed c.args.engine.now c.args.texts.now g.S.Source.left n.still n.grew n.ended i.source i.count i.at_end i.state in
+    too_long f (n.long.0 (search rules)) (n.before (search rules)) (going_yet f.state (λ both. let bad = n.end.1 both in cc))

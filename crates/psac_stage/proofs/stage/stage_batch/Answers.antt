@@ -1,7 +1,5 @@
 use Rattle.std.proofs.Common.{◌∙◌, ◌+◌, Some, pos, ap, sym, subst, arith}
 use Rattle.psac_ops.specs.declared.plain.Plain.TheVariants.{Int}
-use Rattle.psac_inputs.specs.Grid.{Grid}
-use Rattle.psac_inputs.specs.Batch.{Batch}
 use Rattle.psac_plain.specs.Opened.{first_output}
 use Rattle.psac_repair.specs.Going.{views}
 use Rattle.psac_stage.specs.Places.{fixed_slots}
@@ -10,7 +8,7 @@ use Rattle.psac_stage.specs.Staging.{three, MayChange}
 use Rattle.psac_stage.specs.Storing.{HasCells}
 use Rattle.psac_stage.proofs.Changing.{changes_then, changes_by, may_still}
 use Rattle.psac_stage.proofs.Restaged.{may_here, all_changed, cells_low, changed_is}
-use Rattle.psac_stage.proofs.Storing.{fixed_same, first_put, put_numbers, put_cells_same}
+use Rattle.psac_stage.proofs.Storing.{fixed_same, first_put, room_goes, cols_goes, put_cells_same}
 use Rattle.psac_stage.proofs.stage.stage_batch.Goals as goal
 
 pub change_cells-requires-clause-may : goal.change_cells-requires-clause-may
@@ -62,14 +60,10 @@ change_rows-requires-clause-has c =
     ∙ c.requires.all.2.grid.row_count ∙ ap (λ n. Some (Int (pos n))) (sym c.rows-rows.ensures.value)
 
 pub clear-requires-clause-room : goal.clear-requires-clause-room
-clear-requires-clause-room c =
-    ap (λ (b : Batch). b.room) c.net.ensures.left ∙ c.requires.goes.room ∙ sym (put_numbers c.net.new.self c.args.grid.now).0
-    ∙ sym (ap (λ (g : Grid). g.room) c.put_all.ensures)
+clear-requires-clause-room c = room_goes _ _ _ (c.net.ensures.goes c.requires.goes) c.put_all.ensures
 
 pub clear-requires-clause-cols : goal.clear-requires-clause-cols
-clear-requires-clause-cols c =
-    ap (λ (b : Batch). b.cols) c.net.ensures.left ∙ c.requires.goes.cols ∙ sym (put_numbers c.net.new.self c.args.grid.now).1
-    ∙ sym (ap (λ (g : Grid). g.cols) c.put_all.ensures)
+clear-requires-clause-cols c = cols_goes _ _ _ (c.net.ensures.goes c.requires.goes) c.put_all.ensures
 
 pub returns-clause-all : goal.returns-clause-all
 returns-clause-all c caps age all =

@@ -1,7 +1,5 @@
-use Rattle.std.proofs.Common.{◌∙◌, ap, sym, arith}
-use Rattle.psac_inputs.specs.Batch.{Batch}
-use Rattle.psac_inputs.specs.Grid.{Grid}
-use Rattle.psac_stage.proofs.Storing.{fixed_same, first_is, first_put, put_numbers, placed_all}
+use Rattle.std.proofs.Common.{arith}
+use Rattle.psac_stage.proofs.Storing.{fixed_same, first_is, first_put, room_goes, cols_goes, placed_all}
 use Rattle.psac_stage.proofs.store.place.Goals as goal
 
 pub overflow_add-slot : goal.overflow_add-slot
@@ -20,14 +18,10 @@ put_value-requires-clause-fixed c =
     (f.0, fixed_same c.args.pass.now.knows c.put_edits.new.pass.knows c.put_edits.ensures.same f.0 f.1, omega (arith, e, p, most))
 
 pub clear-requires-clause-room : goal.clear-requires-clause-room
-clear-requires-clause-room c =
-    ap (λ (b : Batch). b.room) c.net.ensures.left ∙ c.requires.goes.room ∙ sym (put_numbers c.net.new.self c.args.grid.now).0
-    ∙ sym (ap (λ (g : Grid). g.room) c.put_all.ensures)
+clear-requires-clause-room c = room_goes _ _ _ (c.net.ensures.goes c.requires.goes) c.put_all.ensures
 
 pub clear-requires-clause-cols : goal.clear-requires-clause-cols
-clear-requires-clause-cols c =
-    ap (λ (b : Batch). b.cols) c.net.ensures.left ∙ c.requires.goes.cols ∙ sym (put_numbers c.net.new.self c.args.grid.now).1
-    ∙ sym (ap (λ (g : Grid). g.cols) c.put_all.ensures)
+clear-requires-clause-cols c = cols_goes _ _ _ (c.net.ensures.goes c.requires.goes) c.put_all.ensures
 
 pub returns-clause-has : goal.returns-clause-has
 returns-clause-has c =
