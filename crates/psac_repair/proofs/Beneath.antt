@@ -134,6 +134,29 @@ watched_known v m (S n t r) w = (watched_known v m t w.0, watched_known v m r w.
 watched_known v m (P n t r) w = (watched_known v m t w.0, watched_known v m r w.1)
 watched_known v m (R b t) w = (known_each v b.reads w.0.0, watched_known v m t w.1)
 
+-- a node over two records, where no slot stands twice: what is beneath it, and beneath a node of either of them
+at_top : (g : Handle) (a b : Tree) (s : Stands) → (Member g.slot (slots a ++ slots b) → ⊥) → Beneath (S g a b) g.slot s
+    → Member s (links_of a ++ links_of b)
+at_top g a b s off (inl z) = z.1
+at_top g a b s off (inr z) =
+    absurd (off (⊎_elim
+    (λ (c : Beneath a g.slot s). member_left g.slot (slots a) (slots b) (beneath_in a g.slot s c))
+    (λ (c : Beneath b g.slot s). member_right g.slot (slots a) (slots b) (beneath_in b g.slot s c)) z))
+
+in_first : (g : Handle) (a b : Tree) (y : ℕ) (s : Stands) → Once (S g a b) → Member y (slots a) → Beneath (S g a b) y s
+    → Beneath a y s
+in_first g a b y s once i (inl z) =
+    absurd (once.0 (subst (λ d. Member d (slots a ++ slots b)) (sym z.0) (member_left y (slots a) (slots b) i)))
+in_first g a b y s once i (inr (inl c)) = c
+in_first g a b y s once i (inr (inr c)) = absurd (once.1 y i (beneath_in b y s c))
+
+in_second : (g : Handle) (a b : Tree) (y : ℕ) (s : Stands) → Once (S g a b) → Member y (slots b) → Beneath (S g a b) y s
+    → Beneath b y s
+in_second g a b y s once i (inl z) =
+    absurd (once.0 (subst (λ d. Member d (slots a ++ slots b)) (sym z.0) (member_right y (slots a) (slots b) i)))
+in_second g a b y s once i (inr (inl c)) = absurd (once.1 y (beneath_in a y s c) i)
+in_second g a b y s once i (inr (inr c)) = c
+
 -- where this is so of each node of a record k, the record is founded
 module _ (F : Handle → Value Handle → Type 0) (v u : ValueView) (m x : MarksView) (k : Tree)
     (one : (g : Handle) (j : Tree) → Member g.slot (slots k) →
@@ -146,52 +169,18 @@ module _ (F : Handle → Value Handle → Type 0) (v u : ValueView) (m x : Marks
   founded_by (A h j) inside once sub told f = founded_by j inside once sub told f
   founded_by (W h y j) inside once sub told f = founded_by j inside once sub told f
   founded_by (S g a b) inside once sub told f = (
-    one g (S g a b) (inside g.slot (inl refl))
-        (λ s q. elim (sub g.slot s (inl refl) q) [
-          | inl z ↦ z.1
-          | inr z ↦ absurd (once.0 (⊎_elim
-              (λ (c : Beneath a g.slot s). member_left g.slot (slots a) (slots b) (beneath_in a g.slot s c))
-              (λ (c : Beneath b g.slot s). member_right g.slot (slots a) (slots b) (beneath_in b g.slot s c)) z))
-        ])
-        told f.0,
+    one g (S g a b) (inside g.slot (inl refl)) (λ s q. at_top g a b s once.0 (sub g.slot s (inl refl) q)) told f.0,
     founded_by a (λ y i. inside y (inr (member_left y (slots a) (slots b) i))) once.2
-        (λ y s i q. elim (sub y s (inr (member_left y (slots a) (slots b) i)) q) [
-          | inl z ↦ absurd (once.0 (subst (λ d. Member d (slots a ++ slots b)) (sym z.0)
-              (member_left y (slots a) (slots b) i)))
-          | inr z ↦ elim z [ inl c ↦ c | inr c ↦ absurd (once.1 y i (beneath_in b y s c)) ]
-        ])
-        told.0 f.1,
+        (λ y s i q. in_first g a b y s once i (sub y s (inr (member_left y (slots a) (slots b) i)) q)) told.0 f.1,
     founded_by b (λ y i. inside y (inr (member_right y (slots a) (slots b) i))) once.3
-        (λ y s i q. elim (sub y s (inr (member_right y (slots a) (slots b) i)) q) [
-          | inl z ↦ absurd (once.0 (subst (λ d. Member d (slots a ++ slots b)) (sym z.0)
-              (member_right y (slots a) (slots b) i)))
-          | inr z ↦ elim z [ inl c ↦ absurd (once.1 y (beneath_in a y s c) i) | inr c ↦ c ]
-        ])
-        told.1 f.2,
+        (λ y s i q. in_second g a b y s once i (sub y s (inr (member_right y (slots a) (slots b) i)) q)) told.1 f.2,
   )
   founded_by (P g a b) inside once sub told f = (
-    one g (P g a b) (inside g.slot (inl refl))
-        (λ s q. elim (sub g.slot s (inl refl) q) [
-          | inl z ↦ z.1
-          | inr z ↦ absurd (once.0 (⊎_elim
-              (λ (c : Beneath a g.slot s). member_left g.slot (slots a) (slots b) (beneath_in a g.slot s c))
-              (λ (c : Beneath b g.slot s). member_right g.slot (slots a) (slots b) (beneath_in b g.slot s c)) z))
-        ])
-        told f.0,
+    one g (P g a b) (inside g.slot (inl refl)) (λ s q. at_top g a b s once.0 (sub g.slot s (inl refl) q)) told f.0,
     founded_by a (λ y i. inside y (inr (member_left y (slots a) (slots b) i))) once.2
-        (λ y s i q. elim (sub y s (inr (member_left y (slots a) (slots b) i)) q) [
-          | inl z ↦ absurd (once.0 (subst (λ d. Member d (slots a ++ slots b)) (sym z.0)
-              (member_left y (slots a) (slots b) i)))
-          | inr z ↦ elim z [ inl c ↦ c | inr c ↦ absurd (once.1 y i (beneath_in b y s c)) ]
-        ])
-        told.0 f.1,
+        (λ y s i q. in_first g a b y s once i (sub y s (inr (member_left y (slots a) (slots b) i)) q)) told.0 f.1,
     founded_by b (λ y i. inside y (inr (member_right y (slots a) (slots b) i))) once.3
-        (λ y s i q. elim (sub y s (inr (member_right y (slots a) (slots b) i)) q) [
-          | inl z ↦ absurd (once.0 (subst (λ d. Member d (slots a ++ slots b)) (sym z.0)
-              (member_right y (slots a) (slots b) i)))
-          | inr z ↦ elim z [ inl c ↦ absurd (once.1 y (beneath_in a y s c) i) | inr c ↦ c ]
-        ])
-        told.1 f.2,
+        (λ y s i q. in_second g a b y s once i (sub y s (inr (member_right y (slots a) (slots b) i)) q)) told.1 f.2,
   )
   founded_by (R b a) inside once sub told f = (
     one b.node (R b a) (inside b.node.slot (inl refl))

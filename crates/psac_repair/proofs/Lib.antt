@@ -60,5 +60,6 @@ pub mod Sparing
 pub mod Walking
 pub mod Spending
 pub mod Pairing
+pub mod Mended
 pub mod Indexed
 pub mod Blocking
