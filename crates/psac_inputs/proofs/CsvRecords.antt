@@ -1,10 +1,10 @@
 -- What csv's reader gives, record by record.
 use Rattle.std.proofs.Common.{◌≡◌, ℕ, zero, suc, ◌+◌, ◌*◌, ◌≤◌, ◌<◌, Bool, true, false, List, [], ◌∷◌, ◌++◌, ◌∙◌, length, length-append, arith, refl, sym, ap, true≢false, Option, Some, None, subst, get_or, rules}
-use Rattle.std.specs.Prelude.{◌==◌, MatchOption, Ok, Err, IsSome, option_map, slice_get, if◌then◌else◌, unwrap_or}
+use Rattle.std.specs.Prelude.{◌==◌, MatchOption, Ok, Err, IsSome, drop, nat_lt, option_map, slice_get, if◌then◌else◌, unwrap_or}
 use Rattle.std.proofs.Math.Nat.{mul-one, mul-zero, one-mul, suc-mul, zero-mul}
 use Rattle.std.proofs.lemmas.Nat.{mul-le}
 use Rattle.std.proofs.lemmas.Option.{slice_get-get_or}
-use Rattle.std.proofs.lemmas.List.{append-nil, length_push, take_all}
+use Rattle.std.proofs.lemmas.List.{append-nil, drop_more, length_push, take_all}
 use Rattle.csv.specs.Machine.{Read, after_end, ends_at_end, ends_with, field_after, fields_after, in_field, is_end, next_record, start_field, start_record, step}
 use Rattle.csv.specs.Reading.{Reached, ReadRecord, default_config, records, records_from as csv_from, source_of}
 use Rattle.csv.specs.Records.{field_at}
@@ -16,7 +16,10 @@ use Rattle.csv.specs.declared.parser.State.{State}
 use Rattle.csv.specs.declared.parser.State.TheVariants as st
 use Rattle.psac_ops.specs.declared.plain.Plain.{Plain}
 use Rattle.psac_inputs.specs.declared.fault.InputFault.{InputFault}
-use Rattle.psac_inputs.specs.Grid.{grid_of, rows_of}
+use Rattle.psac_inputs.specs.declared.fault.InputFault.TheVariants.{Cells, Ragged}
+use Rattle.psac_inputs.specs.Grid.{grid_of, most_cells, rows_of}
+use Rattle.psac_inputs.specs.Wide.{IsWide}
+use Rattle.psac_inputs.proofs.WideRecords.{drop_first}
 use Rattle.psac_inputs.proofs.GridRows.{rows_of-append}
 use Rattle.psac_inputs.specs.Texts.{Texts}
 use Rattle.psac_inputs.specs.Load.{columns, loaded, record_of, records_from}
@@ -128,6 +131,7 @@ pub record Going (cols : Option ℕ) (at : ℕ) (cells : List Plain) (s : State)
   pub whole : length cells ≡ at * unwrap_or cols 0
   pub fits : length cells ≤ 65536
   pub few : unwrap_or cols 0 ≤ 65536
+  pub left : csv_from default_config fuel s ys ≡ drop at all
   pub width : wanted cols (csv_from default_config fuel s ys) ≡ columns all
   pub told : after (rows_of (unwrap_or cols 0) at cells) (records_from (columns all) (at + 1) (csv_from default_config fuel s ys) ts) ≡ records_from (columns all) 1 all start
 
@@ -141,6 +145,7 @@ going_start text ts = record {
   whole = omega (arith, zero-mul 0);
   fits = omega arith;
   few = omega arith;
+  left = refl;
   width = refl;
   told = after_none (records_from (columns (records default_config text)) 1 (records default_config text) ts);
 }
@@ -219,6 +224,7 @@ going_on cols at cells new row s t ys zs ts us start all fields w g is width rea
       whole = longer ∙ whole;
       fits = fits;
       few = omega (arith, longer, fits);
+      left = sym (drop_first [] all at fields (csv_from default_config next.0 t zs) (sym g.left ∙ left)).2;
       width = same;
       told = rw rows (record_step (columns all) (at + 1) (rows_of (unwrap_or cols 0) at cells) row fields (csv_from default_config next.0 t zs) ts us (records_from (columns all) 1 all start) (rw same at read) told);
     }
@@ -235,6 +241,26 @@ going_fault cols at cells s t ys zs ts start all fields w e g is width read =
     let same : w ≡ columns all = width ∙ n in
     let told = ap (λ rs. after (rows_of (unwrap_or cols 0) at cells) (records_from (columns all) (at + 1) rs ts)) (sym left) ∙ g.told in
     loaded_err all start e (record_fault (columns all) (at + 1) (rows_of (unwrap_or cols 0) at cells) fields (csv_from default_config next.0 t zs) ts (records_from (columns all) 1 all start) e (rw same at read) told)
+
+-- a first record of more fields than there may be cells
+pub first_wide : (all : List (List (List ℕ))) (start : Texts) → IsWide 65536 0 all → loaded all start ≡ Err (Cells 1)
+first_wide [] start wide = absurd (omega (arith, wide.0))
+first_wide (fields ∷ more) start wide =
+    let same : (length fields == length fields) ≡ true = grind arith in
+    let many : nat_lt most_cells (1 * length fields) ≡ true = grind (arith, wide.1) in
+    let is : record_of (length fields) 1 fields start ≡ Err (Cells 1) = rw (same, many) refl in
+    loaded_err (fields ∷ more) start (Cells 1) (rw is refl)
+
+-- a later one, which has other fields than the first
+pub later_wide : (w at : ℕ) (cells : List Plain) (s : State) (ys : List ℕ) (ts start : Texts) (all : List (List (List ℕ)))
+    → Going (Some w) at cells s ys ts all start → IsWide 65536 at all → loaded all start ≡ Err (Ragged (at + 1))
+later_wide w at cells s ys ts start all g wide =
+    let fields = get_or all at [] in
+    let left : csv_from default_config g.fuel s ys ≡ fields ∷ drop (at + 1) all = g.left ∙ drop_more all at [] wide.0 in
+    let other : (length fields == columns all) ≡ false = grind (arith, wide.1, g.few, g.width) in
+    let is : record_of (columns all) (at + 1) fields ts ≡ Err (Ragged (at + 1)) = rw other refl in
+    let told = ap (λ rs. after (rows_of w at cells) (records_from (columns all) (at + 1) rs ts)) (sym left) ∙ g.told in
+    loaded_err all start (Ragged (at + 1)) (record_fault (columns all) (at + 1) (rows_of w at cells) fields (drop (at + 1) all) ts _ (Ragged (at + 1)) is told)
 
 last_width : (cols : Option ℕ) → wanted cols [] ≡ unwrap_or cols 0
 last_width None = refl
@@ -261,6 +287,16 @@ read_one rem a b fields ys config source read =
     let m = rows-more rem a b fields default_config a.state ys ys [] config source (refl, refl) read in
     let p = m.2 in
     (m.0, m.1, p.1 ∙ ap Some (λ j. (sym p.2 j, p.3.0 j, p.3.1 j)))
+
+-- the record that a read found, taken in
+pub going_next : {R : Type 0} (rem : R → Option (List ℕ)) (a b : Reader R) (cols : Option ℕ) (at : ℕ) (cells new row : List Plain) (ys : List ℕ) (ts us start : Texts)
+    (all : List (List (List ℕ))) (fields : List (List ℕ)) (w : ℕ)
+    → a.config ≡ default_config → source_of rem a ≡ Some ys → Going cols at cells a.state ys ts all start → ReadRecord rem a b true fields
+    → w ≡ unwrap_or cols (length fields) → record_of w (at + 1) fields ts ≡ Ok (row, us) → new ≡ cells ++ row → length new ≡ length cells + w → length new ≤ 65536
+    → (zs : List ℕ) × (source_of rem b ≡ Some zs) × Going (Some w) (at + 1) new b.state zs us all start
+going_next rem a b cols at cells new row ys ts us start all fields w config source g read width is added longer fits =
+    let one = read_one rem a b fields ys config source read in
+    (one.0, one.1, going_on cols at cells new row _ _ ys one.0 ts us start all fields w g one.2 width is added longer fits)
 
 -- a field of a record by its place
 field_at-slice_get : (fields : List (List ℕ)) (i : ℕ) → field_at fields i ≡ slice_get fields i

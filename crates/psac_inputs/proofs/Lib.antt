@@ -11,4 +11,5 @@ pub mod Putting
 pub mod TextPlaces
 pub mod TextGrowth
 pub mod Records
+pub mod WideRecords
 pub mod CsvRecords

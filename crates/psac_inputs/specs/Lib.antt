@@ -6,3 +6,4 @@ pub mod Batch
 pub mod Staged
 pub mod Load
 pub mod Reads
+pub mod Wide

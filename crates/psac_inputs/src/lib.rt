@@ -7,6 +7,7 @@ mod grid;
 mod interner;
 mod lines;
 mod load;
+mod wide;
 
 pub use batch::{Batch, Edit};
 pub use fault::{BatchFault, InputFault, TextFault};

@@ -1,5 +1,5 @@
 // Inputs, read into a grid.
-ghost use Rattle.std.specs.Prelude.{◌≡◌, ◌+◌, ◌*◌, ◌≤◌, ◌∷◌, [], length, All, OnOk};
+ghost use Rattle.std.specs.Prelude.{◌≡◌, ◌+◌, ◌*◌, ◌≤◌, ◌∷◌, [], length, All, OnOk, Some, true};
 ghost use Rattle.csv.specs.Records.{fields_of as fields_in};
 ghost use Rattle.psac_inputs.specs.Grid.{IsCellValue};
 ghost use Rattle.psac_inputs.specs.Load.{fault_of, fields_of, loaded_csv, loaded_lines, record_of, Begins, Loads};
@@ -9,11 +9,22 @@ use crate::fault::{InputFault, TextFault};
 use crate::grid::Grid;
 use crate::interner::Interner;
 use crate::lines::split_line;
+use crate::wide::wide_record;
 use csv::{ByteRecord, ReaderBuilder};
 use psac_ops::Plain;
 use std::alloc::Global;
 
 const MOST_CELLS: usize = 65_536;
+
+// Whether the record behind so many others is the one that was found.
+fn is_next(found: Option<usize>, at: u32) -> bool
+    ensures { result ≡ true → found ≡ Some at }
+{
+    match found {
+        Some(n) => n == at as usize,
+        None => false,
+    }
+}
 
 // The fault of a field, with the number of its record.
 fn fault_at(at: u32, fault: TextFault) -> InputFault
@@ -104,6 +115,11 @@ pub fn load_csv(alloc: Global, bytes: &[u8], texts: &mut Interner) -> Result<Gri
     ensures loads { Loads (loaded_csv bytes.now texts.old) result texts.new }
     ensures begins { Begins texts.old texts.new }
 {
+    // csv's reader keeps a record whole, so one that is too wide is found before, and isn't read.
+    let wide = wide_record(bytes, MOST_CELLS);
+    if is_next(wide, 0) {
+        return Err(InputFault::Cells { at: 1 });
+    }
     let rdr = ReaderBuilder::new()
         .has_headers(false)
         .flexible(true)
@@ -122,6 +138,9 @@ pub fn load_csv(alloc: Global, bytes: &[u8], texts: &mut Interner) -> Result<Gri
             return Err(fault);
         }
         cols = Some(wanted);
+        if is_next(wide, at) {
+            return Err(InputFault::Ragged { at: at + 1 });
+        }
     }
     Ok(Grid::from_cells(at, cols.unwrap_or(0) as u32, cells))
 }

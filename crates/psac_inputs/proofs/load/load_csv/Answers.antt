@@ -1,10 +1,11 @@
-use Rattle.std.proofs.Common.{◌∙◌, Bor, List, ℕ, Some, refl, sym, inl, inr, ap}
+use Rattle.std.proofs.Common.{◌∙◌, ◌+◌, arith, Bor, List, ℕ, Some, refl, sym, inl, inr, ap}
 use Rattle.std.specs.Prelude.{Ok, unwrap_or}
 use Rattle.std.proofs.lemmas.List.Elements.{All-nil}
-use Rattle.csv.specs.Reading.{strip_bom}
+use Rattle.csv.specs.Reading.{default_config, records, strip_bom}
 use Rattle.csv.specs.Records.{fields_of as fields_in}
 use Rattle.psac_inputs.specs.Grid.{Grid, IsCellValue}
-use Rattle.psac_inputs.proofs.CsvRecords.{going_end, going_fault, going_on, going_start, going_whole, read_none, read_one}
+use Rattle.psac_inputs.specs.Wide.{IsWide}
+use Rattle.psac_inputs.proofs.CsvRecords.{few_records, first_wide, going_end, going_fault, going_next, going_start, later_wide, going_whole, read_none, read_one}
 use Rattle.psac_inputs.proofs.TextGrowth.{begins_same, begins_then}
 use Rattle.psac_inputs.proofs.load.load_csv.Goals as goal
 
@@ -46,7 +47,6 @@ pub loop-row-preserved : goal.loop-row-preserved
 loop-row-preserved c =
     let inv = c.loop-row.invariant in
     let step = rw (c.in-Some.is, c.in-Ok.is) at ((c.next.ensures.steps inv.turns inv.trim).0 inv.ready) in
-    let one = read_one (λ (s : Bor (List ℕ)). Some s.now) c.loop-row.row-iterator.rdr c.next.new.self.rdr (fields_in c.in-Ok.row) inv.going.0 inv.config inv.going.1 step.0 in
     let wanted = c.unwrap_or-wanted.ensures ∙ ap (unwrap_or c.loop-row.cols) c.len.ensures in
     let read = c.in_default-read_record.ensures in
     record {
@@ -54,10 +54,28 @@ loop-row-preserved c =
       ready = inl step.1;
       turns = step.2;
       config = step.0.2 ∙ inv.config;
-      going = (one.0, one.1, going_on c.loop-row.cols c.loop-row.at c.loop-row.cells.items c.read_record.new.cells.items read.reads.0 _ _ inv.going.0 one.0 c.loop-row.texts c.read_record.new.texts c.args.texts.now _ (fields_in c.in-Ok.row) c.unwrap_or-wanted.result inv.going.2 one.2 wanted read.reads.1 read.reads.2 read.row read.fits);
+      going = going_next (λ (s : Bor (List ℕ)). Some s.now) c.loop-row.row-iterator.rdr c.next.new.self.rdr c.loop-row.cols c.loop-row.at c.loop-row.cells.items
+          c.read_record.new.cells.items read.reads.0 inv.going.0 c.loop-row.texts c.read_record.new.texts c.args.texts.now _ (fields_in c.in-Ok.row) c.unwrap_or-wanted.result
+          inv.config inv.going.1 inv.going.2 step.0 wanted read.reads.1 read.reads.2 read.row read.fits;
       plain = c.read_record.ensures.plain inv.plain;
       begins = begins_then c.args.texts.now c.loop-row.texts c.read_record.new.texts inv.begins c.read_record.ensures.begins;
     }
+
+pub overflow_add-result : goal.overflow_add-result
+overflow_add-result c = omega (arith, few_records c.loop-row.cols c.loop-row.at c.loop-row.cells.items _ _ _ _ _ c.loop-row.invariant.going.2)
+
+pub returns-then-is_next-2-clause-loads : goal.returns-then-is_next-2-clause-loads
+returns-then-is_next-2-clause-loads c =
+    let inv = c.loop-row.invariant in
+    let step = rw (c.in-Some.is, c.in-Ok.is) at ((c.next.ensures.steps inv.turns inv.trim).0 inv.ready) in
+    let wanted = c.unwrap_or-wanted.ensures ∙ ap (unwrap_or c.loop-row.cols) c.len.ensures in
+    let read = c.in_default-read_record.ensures in
+    let going = going_next (λ (s : Bor (List ℕ)). Some s.now) c.loop-row.row-iterator.rdr c.next.new.self.rdr c.loop-row.cols c.loop-row.at c.loop-row.cells.items
+    c.read_record.new.cells.items read.reads.0 inv.going.0 c.loop-row.texts c.read_record.new.texts c.args.texts.now _ (fields_in c.in-Ok.row) c.unwrap_or-wanted.result
+    inv.config inv.going.1 inv.going.2 step.0 wanted read.reads.1 read.reads.2 read.row read.fits in
+    let found = c.is_next-in-loop-row.ensures c.if-is_next-2.true in
+    let wide : IsWide 65536 (c.loop-row.at + 1) (records default_config (strip_bom c.args.bytes.now)) = rw found at c.wide_record-wide.ensures in
+    inr (later_wide c.unwrap_or-wanted.result (c.loop-row.at + 1) c.read_record.new.cells.items _ _ c.read_record.new.texts c.args.texts.now _ going.2 wide)
 
 pub returns-clause-loads : goal.returns-clause-loads
 returns-clause-loads c =
