@@ -13,10 +13,11 @@ use Rattle.psac_session.specs.Answered.{IsScript}
 use Rattle.psac_open.specs.declared.opening.Opened.{Opened}
 use Rattle.psac_open.specs.Loaded.{Files}
 use Rattle.psac_open.specs.Views.{Holds}
-use Rattle.psac_run.specs.Answer.{HasText}
-use Rattle.psac_certify.specs.Answer.{IsAnswer, IsDump, Report, Reported, Wrote, WrotePart}
+use Rattle.psac_open.specs.Named.{Began}
+use Rattle.psac_run.specs.Reported.{HasText, IsAnswer, Report, Wrote, WrotePart}
+use Rattle.psac_run.proofs.Finished.{opened_answer, text_low}
+use Rattle.psac_certify.specs.Answer.{IsDump}
 use Rattle.psac_certify.specs.Given.{Gave, GavePart, IsOn}
-use Rattle.psac_certify.specs.Opening.{Began}
 
 moved : (report : Report) (w1 w : World) (c1 c : Caps) (g1 g : Grid) (texts : Texts) (script text : List ℕ) → w1 ≡ w
     → c1 ≡ c → g1 ≡ g
@@ -34,16 +35,8 @@ answer_on : (report : Report) (files : Files) (a : Asked) (o : Opened) (told : O
     → Began files a o → IsScript told script
     → IsOn report o script text → IsAnswer report 0 text files (Some a) told
 answer_on report files a o told script text b is_script is_text =
-    record {
-      program = b.program.0;
-      input = b.input;
-      script = script;
-      answer = Reported a b.accepted b.holds.world b.holds.grid o.texts refl b.program.2 b.holds.opens refl
-          (on_input report b.accepted a.input b.input a.settings.rows a.settings.caps o b.holds script text is_text);
-      program_is = b.program.1;
-      input_is = inr b.input_is;
-      script_is = is_script;
-    }
+    opened_answer report files a o b told script text is_script
+    (on_input report b.accepted a.input b.input a.settings.rows a.settings.caps o b.holds script text is_text)
 
 pub wrote_given : (report : Report) (files : Files) (a : Asked) (o : Opened) (told before now : Option (List ℕ))
     → Began files a o → Gave report o told before now
@@ -79,17 +72,8 @@ pub dump_some : (o : Opened) (before now : Option (List ℕ))
     → GavePart IsDump o None before now
 dump_some o before now some = record { script = []; is_script = tt; text = _; is_text = refl; written = some }
 
-text_low : (code : ℕ) → HasText code → (code ≡ 7) ⊎ (code ≡ 9) → ⊥
-text_low code (inl e) (inl h) = absurd (omega arith)
-text_low code (inl e) (inr h) = absurd (omega arith)
-text_low code (inr (inl e)) (inl h) = absurd (omega arith)
-text_low code (inr (inl e)) (inr h) = absurd (omega arith)
-text_low code (inr (inr (inl e))) (inl h) = absurd (omega arith)
-text_low code (inr (inr (inl e))) (inr h) = absurd (omega arith)
-text_low code (inr (inr (inr e))) (inl h) = absurd (omega arith)
-text_low code (inr (inr (inr e))) (inr h) = absurd (omega arith)
-
 -- of the statuses of a run, the one with a text
 pub zero_with_text : (code : ℕ) → (code ≡ 0) ⊎ (code ≡ 7) ⊎ (code ≡ 9) → HasText code → code ≡ 0
 zero_with_text code (inl e) has = e
-zero_with_text code (inr high) has = absurd (text_low code has high)
+zero_with_text code (inr (inl e)) has = let low = text_low code has in absurd (omega (arith, e, low))
+zero_with_text code (inr (inr e)) has = let low = text_low code has in absurd (omega (arith, e, low))

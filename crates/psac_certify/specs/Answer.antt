@@ -1,24 +1,11 @@
--- What a call answers that runs a program once over an input, maybe beside the text of a script.
-use Rattle.std.specs.Prelude.{◌≡◌, ◌⊎◌, ℕ, List, [], Option, Some, None, codes}
-use Rattle.psac_base.specs.Outside.{Appended, AppendedPart}
-use Rattle.psac_syntax.specs.declared.program.Program.{Program}
+-- What the calls write of a record: its dump, or the verdict on a text.
+use Rattle.std.specs.Prelude.{◌≡◌, ◌⊎◌, ℕ, List, codes}
 use Rattle.psac_inputs.specs.Grid.{Grid}
-use Rattle.psac_inputs.specs.Texts.{Texts}
 use Rattle.psac_model.specs.declared.ends.CapKind.{CapKind}
 use Rattle.psac_model.specs.declared.ends.Caps.{Caps}
 use Rattle.psac_model.specs.Fresh.{World, Full, outcome}
 use Rattle.psac_report.specs.Dump.{dump_report, verdict, verdict_line}
-use Rattle.psac_report.specs.Refused.{usage_line}
-use Rattle.psac_command.specs.Asked.{Asked}
-use Rattle.psac_session.specs.Answered.{IsScript}
-use Rattle.psac_open.specs.Accept.{IsAccepted, Refuses}
-use Rattle.psac_open.specs.Loaded.{Files}
-use Rattle.psac_open.specs.Opens.{Opens, RefusesBeside}
-use Rattle.psac_run.specs.Answer.{IsInputFile, IsProgramFile, Words}
-
--- which text may be written of a program over a grid, within caps, and of a script
-abbrev pub Report : Type 1
-Report = World → Caps → Grid → Texts → List ℕ → List ℕ → Type 0
+use Rattle.psac_run.specs.Reported.{Report}
 
 -- the dump of the run's record, or why there is none
 abbrev pub IsDump : Report
@@ -33,54 +20,6 @@ pub record IsTooLarge (w : World) (caps : Caps) (g : Grid) (text : List ℕ) : T
 -- what the script is found to be beside the dump of the fresh run; it may stay open where the run's record is over a cap
 abbrev pub IsVerdict : Report
 IsVerdict w caps g texts script text = (text ≡ verdict_line (verdict w g texts script)) ⊎ IsTooLarge w caps g text
-
--- the status and the text for words, where these are the bytes of the program, of the input and of the script
-pub data Answers (report : Report) (words : Words) (program input script : List ℕ) (status : ℕ) (text : List ℕ) : Type 0
-  where
-    -- the words ask for nothing that is known
-    Usage : words ≡ None → status ≡ 2 → text ≡ usage_line → Answers report words program input script status text
-    -- the bytes of the program are none that is run
-    ProgramRefused : (a : Asked) → words ≡ Some a → Refuses program text → status ≡ 4
-        → Answers report words program input script status text
-    -- the program is run, and the input isn't taken
-    InputRefused : (a : Asked) (p : Program) → words ≡ Some a → IsAccepted program p → RefusesBeside p a.input input text
-        → status ≡ 5
-        → Answers report words program input script status text
-    -- both are accepted
-    Reported : (a : Asked) (p : Program) (w : World) (g : Grid) (texts : Texts) → words ≡ Some a → IsAccepted program p
-        → Opens p a.input input a.settings.rows w g texts → status ≡ 0 → report w a.settings.caps g texts script text
-        → Answers report words program input script status text
-
--- the status and the text are the answer for some bytes of the program, of the input and of the script, which are those
--- that are told, where they are told
-pub record IsAnswer (report : Report) (status : ℕ) (text : List ℕ) (files : Files) (words : Words)
-    (told : Option (List ℕ)) : Type 0 where
-  pub program : List ℕ
-  pub input : List ℕ
-  pub script : List ℕ
-  pub answer : Answers report words program input script status text
-  pub program_is : IsProgramFile files words program
-  pub input_is : (status ≡ 4) ⊎ IsInputFile files words input
-  pub script_is : IsScript told script
-
--- the text of that status was written whole
-pub record Wrote (report : Report) (status : ℕ) (files : Files) (words : Words)
-    (told before now : Option (List ℕ)) : Type 0 where
-  pub text : List ℕ
-  pub is_answer : IsAnswer report status text files words told
-  pub written : Appended before now text
-
--- a first part of the text of some status was written
-pub record WrotePart (report : Report) (files : Files) (words : Words) (told before now : Option (List ℕ)) : Type 0
-  where
-    pub status : ℕ
-    pub text : List ℕ
-    pub is_answer : IsAnswer report status text files words told
-    pub written : AppendedPart before now text
-
--- nothing was written, or a first part of a text
-abbrev pub WroteSome : Report → Files → Words → Option (List ℕ) → Option (List ℕ) → Option (List ℕ) → Type 0
-WroteSome report files words told before now = Appended before now [] ⊎ WrotePart report files words told before now
 
 -- the statuses of a call that reads no script
 abbrev pub IsDumpStatus : ℕ → Type 0

@@ -5,7 +5,7 @@ use Rattle.psac_base.specs.Outside.{Appended, AppendedPart}
 use Rattle.psac_engine.specs.Engine.{caps_in, grid_in, world_in}
 use Rattle.psac_session.specs.Answered.{IsScript}
 use Rattle.psac_open.specs.declared.opening.Opened.{Opened}
-use Rattle.psac_certify.specs.Answer.{Report}
+use Rattle.psac_run.specs.Reported.{Report}
 
 -- the bytes are all that a source had, fewer than 16,777,217
 pub record IsAllOf (bytes : List ℕ) (left left_now : Option (List ℕ)) (taken taken_now : ℕ) : Type 0 where

@@ -3,11 +3,9 @@
 
 mod certify;
 mod dump;
-mod opening;
 mod reply;
 mod text;
 mod top;
 
-pub use opening::{Unopened, open_named};
 pub use psac_open::Status;
 pub use top::{certified, dumped};

@@ -3,3 +3,4 @@ pub mod Loads
 pub mod Opens
 pub mod Views
 pub mod Loaded
+pub mod Named

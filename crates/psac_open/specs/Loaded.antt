@@ -1,8 +1,9 @@
 -- What was loaded of a shelf, and what a failed load shows.
-use Rattle.std.specs.Prelude.{◌⊎◌, ℕ, List, Option}
+use Rattle.std.specs.Prelude.{◌⊎◌, ℕ, List, Option, None, Some}
 use Rattle.psac_base.specs.Causes.{Rose}
 use Rattle.psac_base.specs.Outside.{IsFile}
 use Rattle.psac_syntax.specs.declared.program.Program.{Program}
+use Rattle.psac_command.specs.Asked.{Asked}
 use Rattle.psac_open.specs.Accept.{IsAccepted}
 use Rattle.psac_open.specs.declared.load.TheConstants.{MOST}
 
@@ -28,3 +29,14 @@ pub record AcceptedFile (files : Files) (name : List ℕ) : Type 0 where
 -- a program that is run, of some bytes of the file of that name
 abbrev pub HasProgram : Files → List ℕ → Program → Type 0
 HasProgram files name p = (bytes : List ℕ) × IsFile files name bytes × IsAccepted bytes p
+
+-- what the words ask for, if it is known
+abbrev pub Words : Type 0
+Words = Option Asked
+
+-- the program's load failed; or the program is accepted, and the input's load failed
+abbrev pub LoadFailed : Files → Words → Counts → Counts → Counts → Counts → Type 0
+LoadFailed files None faults faults_now overs overs_now = ⊥
+LoadFailed files (Some a) faults faults_now overs overs_now =
+    RoseFor a.program faults faults_now overs overs_now
+    ⊎ (AcceptedFile files a.program × RoseFor a.input faults faults_now overs overs_now)

@@ -5,6 +5,7 @@
 mod ending;
 mod input;
 mod load;
+mod named;
 mod opening;
 mod program;
 mod refusal;
@@ -13,6 +14,7 @@ mod texts;
 
 pub use ending::finish;
 pub use load::{MOST, load_named};
+pub use named::{Unopened, open_named};
 pub use opening::{Opened, open};
 pub use program::accept;
 pub use refusal::Refusal;

@@ -1,5 +1,5 @@
 pub mod Parts
 pub mod Sessions
-pub mod Reports
 pub mod Finished
+pub mod Reports
 pub mod Complete

@@ -1,8 +1,6 @@
 -- What is done with an engine, as a report over the program and the input that opened it.
 use Rattle.std.proofs.Common.{◌≡◌, ◌⊎◌, inl, inr, ℕ, ◌≤◌, List, Option, Some, None, option_map, refl, sym, ◌∙◌, arith}
 use Rattle.psac_base.specs.Feeds.{lines_of}
-use Rattle.psac_base.specs.Outside.{IsFile}
-use Rattle.psac_syntax.specs.declared.program.Program.{Program}
 use Rattle.psac_inputs.specs.Batch.{empty_batch, put_all}
 use Rattle.psac_inputs.specs.Grid.{Grid}
 use Rattle.psac_inputs.specs.Texts.{Texts}
@@ -20,12 +18,14 @@ use Rattle.psac_command.specs.Asked.{Asked}
 use Rattle.psac_engine.specs.declared.engine.Engine.{Engine}
 use Rattle.psac_engine.specs.Engine.{IsOpened, caps_in, grid_in, kept_in, world_in}
 use Rattle.psac_session.specs.State.{kept_of, no_places}
-use Rattle.psac_session.specs.Answered.{Answer, answer_of}
+use Rattle.psac_session.specs.Answered.{Answer, IsScript, answer_of}
 use Rattle.psac_open.specs.declared.opening.Opened.{Opened}
 use Rattle.psac_run.specs.Served.{IsServed, Served, ServedPart, report_in}
-use Rattle.psac_open.specs.Views.{Holds}
-use Rattle.psac_open.specs.Loaded.{Files, HasProgram}
-use Rattle.psac_run.specs.Answer.{HasText, Held, Reported, Wrote, WrotePart, answers_of, report_of}
+use Rattle.psac_open.specs.Loaded.{Files}
+use Rattle.psac_open.specs.Named.{Began}
+use Rattle.psac_run.specs.Answer.{Held, IsReport, Wrote, WrotePart, answers_of, report_of}
+use Rattle.psac_run.specs.Reported.{HasText, IsAnswer}
+use Rattle.psac_run.proofs.Finished.{opened_answer, text_low}
 
 answers_with : (w1 w : World) (c1 c : Caps) (g1 g : Grid) (kept : Option (Ran Name Heap)) (texts : Texts) (lines : List (List ℕ)) → w1 ≡ w → c1 ≡ c → g1 ≡ g → kept ≡ None
     → replies_by w1 (step_of w1 c1) lines (record { grid = g1; texts = texts; kept = option_map kept_of kept; staged = put_all (empty_batch g1) g1; places = no_places })
@@ -47,40 +47,21 @@ report_same Session w c g e texts script of is = answers_same w c g e texts (lin
 
 -- ---- what was written
 
-pub wrote_report : (files : Files) (a : Asked) (p : Program) (input : List ℕ) (o : Opened) (told before now : Option (List ℕ)) → HasProgram files a.program p → IsFile files a.input input
-    → Holds p a.input input a.settings.rows a.settings.caps o → Served a.mode o.engine o.texts told before now → Wrote 0 files (Some a) told before now
-wrote_report files a p input o told before now program is_input holds served =
-    record {
-      text = report_in a.mode o.engine o.texts served.script;
-      is_answer = record {
-        program = program.0;
-        input = input;
-        script = served.script;
-        answer = Reported a p holds.world holds.grid o.texts refl program.2 holds.opens refl (report_same a.mode holds.world a.settings.caps holds.grid o.engine o.texts served.script holds.engine_world holds.engine);
-        program_is = program.1;
-        input_is = inr is_input;
-        script_is = served.is_script;
-      };
-      written = served.written;
-    }
+answer_on : (files : Files) (a : Asked) (o : Opened) (told : Option (List ℕ)) (script : List ℕ) → Began files a o → IsScript told script
+    → IsAnswer (IsReport (Some a)) 0 (report_in a.mode o.engine o.texts script) files (Some a) told
+answer_on files a o told script b is_script =
+    opened_answer (IsReport (Some a)) files a o b told script (report_in a.mode o.engine o.texts script) is_script
+    (report_same a.mode b.holds.world a.settings.caps b.holds.grid o.engine o.texts script b.holds.engine_world b.holds.engine)
 
-pub wrote_part : (files : Files) (a : Asked) (p : Program) (input : List ℕ) (o : Opened) (told before now : Option (List ℕ)) → HasProgram files a.program p → IsFile files a.input input
-    → Holds p a.input input a.settings.rows a.settings.caps o → ServedPart a.mode o.engine o.texts told before now → WrotePart files (Some a) told before now
-wrote_part files a p input o told before now program is_input holds served =
-    record {
-      status = 0;
-      text = report_in a.mode o.engine o.texts served.script;
-      is_answer = record {
-        program = program.0;
-        input = input;
-        script = served.script;
-        answer = Reported a p holds.world holds.grid o.texts refl program.2 holds.opens refl (report_same a.mode holds.world a.settings.caps holds.grid o.engine o.texts served.script holds.engine_world holds.engine);
-        program_is = program.1;
-        input_is = inr is_input;
-        script_is = served.is_script;
-      };
-      written = served.written;
-    }
+pub wrote_report : (files : Files) (a : Asked) (o : Opened) (told before now : Option (List ℕ)) → Began files a o
+    → Served a.mode o.engine o.texts told before now → Wrote 0 files (Some a) told before now
+wrote_report files a o told before now b served =
+    record { text = _; is_answer = answer_on files a o told served.script b served.is_script; written = served.written }
+
+pub wrote_part : (files : Files) (a : Asked) (o : Opened) (told before now : Option (List ℕ)) → Began files a o
+    → ServedPart a.mode o.engine o.texts told before now → WrotePart files (Some a) told before now
+wrote_part files a o told before now b served =
+    record { status = 0; text = _; is_answer = answer_on files a o told served.script b served.is_script; written = served.written }
 
 is_session : (mode : Mode) (code n : ℕ) → code ≡ n → (n ≡ 6) ⊎ (n ≡ 8) → (mode ≡ Once → ((code ≡ 6) ⊎ (code ≡ 8)) → ⊥) → mode ≡ Session
 is_session Session code n e at single = refl
@@ -88,46 +69,36 @@ is_session Once code n e (inl six) single = absurd (single refl (inl (e ∙ six)
 is_session Once code n e (inr eight) single = absurd (single refl (inr (e ∙ eight)))
 
 -- a session was held, where the status says so
-pub held : (files : Files) (a : Asked) (p : Program) (input : List ℕ) (o : Opened) (code n : ℕ) (is : Answer → Type 0) → HasProgram files a.program p → IsFile files a.input input
-    → Holds p a.input input a.settings.rows a.settings.caps o → code ≡ n → (n ≡ 6) ⊎ (n ≡ 8) → (a.mode ≡ Once → ((code ≡ 6) ⊎ (code ≡ 8)) → ⊥)
+pub held : (files : Files) (a : Asked) (o : Opened) (code n : ℕ) (is : Answer → Type 0) → Began files a o
+    → code ≡ n → (n ≡ 6) ⊎ (n ≡ 8) → (a.mode ≡ Once → ((code ≡ 6) ⊎ (code ≡ 8)) → ⊥)
     → ((f h : Answer) → ((lines : List (List ℕ)) → f lines ≡ h lines) → is f → is h) → is (answer_of o.engine o.texts) → Held files (Some a) is
-held files a p input o code n is program is_input holds e at single by told =
+held files a o code n is b e at single by told =
     record {
       asked = a;
       words_are = refl;
       mode_is = is_session a.mode code n e at single;
-      program = program.0;
-      program_is = program.1;
-      input = input;
-      input_is = is_input;
-      accepted = p;
-      is_accepted = program.2;
-      world = holds.world;
-      grid = holds.grid;
+      program = b.program.0;
+      program_is = b.program.1;
+      input = b.input;
+      input_is = b.input_is;
+      accepted = b.accepted;
+      is_accepted = b.program.2;
+      world = b.holds.world;
+      grid = b.holds.grid;
       texts = o.texts;
-      opens = holds.opens;
-      holds = by (answer_of o.engine o.texts) (answers_of holds.world a.settings.caps holds.grid o.texts)
-          (λ lines. answers_same holds.world a.settings.caps holds.grid o.engine o.texts lines holds.engine_world holds.engine) told;
+      opens = b.holds.opens;
+      holds = by (answer_of o.engine o.texts) (answers_of b.holds.world a.settings.caps b.holds.grid o.texts)
+          (λ lines. answers_same b.holds.world a.settings.caps b.holds.grid o.engine o.texts lines b.holds.engine_world b.holds.engine) told;
     }
 
 -- ---- statuses
 
-served_high : (code : ℕ) → IsServed code → (code ≡ 0) ⊎ (6 ≤ code)
-served_high code (inl e) = inl e
-served_high code (inr (inl e)) = inr (omega arith)
-served_high code (inr (inr (inl e))) = inr (omega arith)
-served_high code (inr (inr (inr (inl e)))) = inr (omega arith)
-served_high code (inr (inr (inr (inr e)))) = inr (omega arith)
-
-text_low : (code : ℕ) → HasText code → code ≤ 5
-text_low code (inl e) = omega arith
-text_low code (inr (inl e)) = omega arith
-text_low code (inr (inr (inl e))) = omega arith
-text_low code (inr (inr (inr e))) = omega arith
-
 pub served_zero : (code : ℕ) → IsServed code → HasText code → code ≡ 0
-served_zero code served has = by (served_high code served)
+served_zero code served has = by served (text_low code has)
   where
-    by : (code ≡ 0) ⊎ (6 ≤ code) → code ≡ 0
-    by (inl e) = e
-    by (inr high) = let low = text_low code has in absurd (omega arith)
+    by : IsServed code → code ≤ 5 → code ≡ 0
+    by (inl e) low = e
+    by (inr (inl e)) low = absurd (omega (arith, e, low))
+    by (inr (inr (inl e))) low = absurd (omega (arith, e, low))
+    by (inr (inr (inr (inl e)))) low = absurd (omega (arith, e, low))
+    by (inr (inr (inr (inr e)))) low = absurd (omega (arith, e, low))

@@ -1,78 +1,41 @@
 -- What the top call promises.
-use Rattle.std.specs.Prelude.{◌≡◌, ◌⊎◌, ℕ, List, [], Option, Some, None}
-use Rattle.psac_base.specs.Outside.{Appended, AppendedPart, IsFile}
+use Rattle.std.specs.Prelude.{◌≡◌, ℕ, List, Option, Some, None}
+use Rattle.psac_base.specs.Outside.{IsFile}
 use Rattle.psac_syntax.specs.declared.program.Program.{Program}
 use Rattle.psac_inputs.specs.Grid.{Grid}
 use Rattle.psac_inputs.specs.Texts.{Texts}
 use Rattle.psac_model.specs.declared.ends.Caps.{Caps}
 use Rattle.psac_model.specs.Fresh.{World}
-use Rattle.psac_report.specs.Refused.{usage_line}
 use Rattle.psac_report.specs.Report.{once_report, replies, session_report}
 use Rattle.psac_report.specs.Session.{begun}
 use Rattle.psac_command.specs.declared.request.Mode.{Mode}
 use Rattle.psac_command.specs.declared.request.Mode.TheVariants.{Once, Session}
 use Rattle.psac_command.specs.Asked.{Asked}
-use Rattle.psac_session.specs.Answered.{Answer, IsScript}
-use Rattle.psac_open.specs.Accept.{IsAccepted, Refuses}
-use Rattle.psac_open.specs.Loaded.{AcceptedFile, Counts, Files, RoseFor}
-use Rattle.psac_open.specs.Opens.{Opens, RefusesBeside}
-
--- what the words ask for, if it is known
-abbrev pub Words : Type 0
-Words = Option Asked
+use Rattle.psac_session.specs.Answered.{Answer}
+use Rattle.psac_open.specs.Accept.{IsAccepted}
+use Rattle.psac_open.specs.Loaded.{Files, Words}
+use Rattle.psac_open.specs.Opens.{Opens}
+use Rattle.psac_run.specs.Reported.{Report, Wrote as WroteOf, WrotePart as WrotePartOf, WroteSome as WroteSomeOf}
 
 -- the report of one run, or of a session over a script
 abbrev pub report_of : Mode → World → Caps → Grid → Texts → List ℕ → List ℕ
 report_of Once w caps g texts script = once_report w caps g texts
 report_of Session w caps g texts script = session_report w caps g texts script
 
--- the status and the text for words, where these are the bytes of the program, of the input and of the script
-pub data Answers (words : Words) (program input script : List ℕ) (status : ℕ) (text : List ℕ) : Type 0 where
-  -- the words ask for nothing that is known
-  Usage : words ≡ None → status ≡ 2 → text ≡ usage_line → Answers words program input script status text
-  -- the bytes of the program are none that is run
-  ProgramRefused : (a : Asked) → words ≡ Some a → Refuses program text → status ≡ 4 → Answers words program input script status text
-  -- the program is run, and the input isn't taken
-  InputRefused : (a : Asked) (p : Program) → words ≡ Some a → IsAccepted program p → RefusesBeside p a.input input text → status ≡ 5
-      → Answers words program input script status text
-  -- both are accepted
-  Reported : (a : Asked) (p : Program) (w : World) (g : Grid) (texts : Texts) → words ≡ Some a → IsAccepted program p
-      → Opens p a.input input a.settings.rows w g texts → status ≡ 0 → text ≡ report_of a.mode w a.settings.caps g texts script
-      → Answers words program input script status text
+-- the text is that report, as the words ask
+abbrev pub IsReport : Words → Report
+IsReport None w caps g texts script text = ⊥
+IsReport (Some a) w caps g texts script text = text ≡ report_of a.mode w caps g texts script
 
--- where files are told, these are the bytes of the program
-abbrev pub IsProgramFile : Files → Words → List ℕ → Type 0
-IsProgramFile files None bytes = Unit {0}
-IsProgramFile files (Some a) bytes = IsFile files a.program bytes
+-- the text of that status was written whole, a first part of the text of some status, or such a part or nothing
+abbrev pub Wrote : ℕ → Files → Words → Option (List ℕ) → Option (List ℕ) → Option (List ℕ) → Type 0
+Wrote status files words told before now = WroteOf (IsReport words) status files words told before now
 
--- and of the input
-abbrev pub IsInputFile : Files → Words → List ℕ → Type 0
-IsInputFile files None bytes = Unit {0}
-IsInputFile files (Some a) bytes = IsFile files a.input bytes
+abbrev pub WrotePart : Files → Words → Option (List ℕ) → Option (List ℕ) → Option (List ℕ) → Type 0
+WrotePart files words told before now = WrotePartOf (IsReport words) files words told before now
 
--- the status and the text are the answer for some bytes of the program, of the input and of the script, which are those
--- that are told, where they are told
-pub record IsAnswer (status : ℕ) (text : List ℕ) (files : Files) (words : Words) (told : Option (List ℕ)) : Type 0 where
-  pub program : List ℕ
-  pub input : List ℕ
-  pub script : List ℕ
-  pub answer : Answers words program input script status text
-  pub program_is : IsProgramFile files words program
-  pub input_is : status ≡ 4 ⊎ IsInputFile files words input
-  pub script_is : IsScript told script
-
--- the text of that status was written whole
-pub record Wrote (status : ℕ) (files : Files) (words : Words) (told before now : Option (List ℕ)) : Type 0 where
-  pub text : List ℕ
-  pub is_answer : IsAnswer status text files words told
-  pub written : Appended before now text
-
--- a first part of the text of some status was written
-pub record WrotePart (files : Files) (words : Words) (told before now : Option (List ℕ)) : Type 0 where
-  pub status : ℕ
-  pub text : List ℕ
-  pub is_answer : IsAnswer status text files words told
-  pub written : AppendedPart before now text
+abbrev pub WroteSome : Files → Words → Option (List ℕ) → Option (List ℕ) → Option (List ℕ) → Type 0
+WroteSome files words told before now = WroteSomeOf (IsReport words) files words told before now
 
 -- what a session answers to lines
 abbrev pub answers_of : World → Caps → Grid → Texts → Answer
@@ -95,41 +58,7 @@ pub record Held (files : Files) (words : Words) (is : Answer → Type 0) : Type 
   pub opens : Opens accepted asked.input input asked.settings.rows world grid texts
   pub holds : is (answers_of world asked.settings.caps grid texts)
 
--- the program's load failed; or the program is accepted, and the input's load failed
-abbrev pub LoadFailed : Files → Words → Counts → Counts → Counts → Counts → Type 0
-LoadFailed files None faults faults_now overs overs_now = ⊥
-LoadFailed files (Some a) faults faults_now overs overs_now =
-    RoseFor a.program faults faults_now overs overs_now
-    ⊎ (AcceptedFile files a.program × RoseFor a.input faults faults_now overs overs_now)
-
--- nothing was written, or a first part of a text
-abbrev pub WroteSome : Files → Words → Option (List ℕ) → Option (List ℕ) → Option (List ℕ) → Type 0
-WroteSome files words told before now = Appended before now [] ⊎ WrotePart files words told before now
-
--- the statuses that go with a whole text
-abbrev pub HasText : ℕ → Type 0
-HasText code = (code ≡ 0) ⊎ (code ≡ 2) ⊎ (code ≡ 4) ⊎ (code ≡ 5)
-
--- the statuses behind a first part of a text
-abbrev pub HasPart : ℕ → Type 0
-HasPart code = (code ≡ 6) ⊎ (code ≡ 7) ⊎ (code ≡ 8)
-
--- the statuses
-abbrev pub IsStatus : ℕ → Type 0
-IsStatus code = HasText code ⊎ HasPart code ⊎ (code ≡ 3) ⊎ (code ≡ 9)
-
--- the statuses where the program or the input isn't taken
-abbrev pub IsUntaken : ℕ → Type 0
-IsUntaken code = (code ≡ 3) ⊎ (code ≡ 4) ⊎ (code ≡ 5)
-
 -- the words ask for one run, or for nothing that is known
 abbrev pub IsNoSession : Words → Type 0
 IsNoSession None = Unit {0}
 IsNoSession (Some a) = a.mode ≡ Once
-
--- the words ask for something that is known, and the program and the input are accepted, whatever the shelf may give for them
-pub record AreAccepted (files : Files) (words : Words) : Type 0 where
-  pub asked : Asked
-  pub words_are : words ≡ Some asked
-  pub program : (bytes : List ℕ) → IsFile files asked.program bytes → (p : Program) × IsAccepted bytes p
-  pub input : (bytes text : List ℕ) (p : Program) → IsFile files asked.input bytes → RefusesBeside p asked.input bytes text → ⊥

@@ -5,79 +5,18 @@ ghost use Rattle.psac_base.specs.Outside.{Appended};
 ghost use Rattle.psac_command.specs.Asked.{AreCaps, Asked, IsIn, asked, workers};
 ghost use Rattle.psac_command.specs.Views.{request_view};
 ghost use Rattle.psac_session.specs.Answered.{AnsweredLong, AnsweredWhole, ReadOut};
-ghost use Rattle.psac_open.specs.Loaded.{HasProgram, RoseFor};
-ghost use Rattle.psac_run.specs.Answer.{AreAccepted, HasPart, HasText, Held, IsNoSession, IsStatus, IsUntaken, LoadFailed, Wrote, WrotePart, WroteSome};
+ghost use Rattle.psac_open.specs.Loaded.{LoadFailed};
+ghost use Rattle.psac_run.specs.Answer.{Held, IsNoSession, Wrote, WrotePart, WroteSome};
+ghost use Rattle.psac_run.specs.Reported.{AreAccepted, HasPart, HasText, IsStatus, IsUntaken};
 
 use crate::serve::serve;
 use psac_base::{Shelf, Sink, Source};
-use psac_check::Checked;
 use psac_command::{Mode, Request, read_request};
 use psac_fork::{Crew, Gate};
-use psac_open::{NO_MEMORY, Refusal, Status, accept, finish, load_named, open};
+use psac_open::{NO_MEMORY, Status, Unopened, finish, open_named};
 use psac_refusals::usage_line;
 use std::alloc::Global;
 use std::thread::Threads;
-
-// Loads the input of a program that is run, and runs it.
-fn run_program<Rt: Threads + Sync, F: Shelf, S: Source, K: Sink, G: Gate + Sync>(
-    rt: &Rt,
-    alloc: Global,
-    program: Checked,
-    request: &Request<'_>,
-    shelf: &mut F,
-    script: &mut S,
-    out: &mut K,
-    gate: &G,
-) -> Status
-    requires caps { AreCaps request.now.settings.caps }
-    requires workers { IsIn workers request.now.settings.workers }
-    requires program { HasProgram (F.files shelf.old) request.now.program.now program }
-    ensures status { IsStatus result.code }
-    ensures words { (result.code ≡ 2) → ⊥ }
-    ensures answered { HasText result.code → Wrote result.code (F.files shelf.old) (Some (request_view request.now))
-        (S.left script.old) (K.held out.old) (K.held out.new) }
-    ensures part { HasPart result.code → WrotePart (F.files shelf.old) (Some (request_view request.now))
-        (S.left script.old) (K.held out.old) (K.held out.new) }
-    ensures memory { result.code ≡ 9 → WroteSome (F.files shelf.old) (Some (request_view request.now))
-        (S.left script.old) (K.held out.old) (K.held out.new) }
-    ensures sink { result.code ≡ 7 → Rose (K.faults out.old) (K.faults out.new) }
-    ensures source { result.code ≡ 6 → Rose (S.faults script.old) (S.faults script.new) }
-    ensures shelf { result.code ≡ 3 → RoseFor request.now.input.now (F.faults shelf.old) (F.faults shelf.new) (F.overs shelf.old) (F.overs shelf.new) }
-    ensures nothing { result.code ≡ 3 → Appended (K.held out.old) (K.held out.new) [] }
-    ensures script { request.now.mode ≡ Mode.Once → script.new ≡ script.old }
-    ensures unread { IsUntaken result.code → script.new ≡ script.old }
-    ensures single { request.now.mode ≡ Mode.Once → ((result.code ≡ 6) ⊎ (result.code ≡ 8)) → ⊥ }
-    ensures spare { request.now.mode ≡ Mode.Once → result.code ≡ 9 → Appended (K.held out.old) (K.held out.new) [] }
-    ensures read { request.now.mode ≡ Mode.Session → result.code ≡ 0
-        → ReadOut (S.left script.old) (S.left script.new) (S.taken script.old) (S.taken script.new) }
-    ensures broken { result.code ≡ 6 → Held (F.files shelf.old) (Some (request_view request.now)) (λ answer. AnsweredWhole answer
-        (S.left script.old) (S.left script.new) (K.held out.old) (K.held out.new)) }
-    ensures long { (result.code ≡ 8) ↔ (S.taken script.new ≡ S.taken script.old + 16777217) }
-    ensures much { result.code ≡ 8 → Held (F.files shelf.old) (Some (request_view request.now)) (λ answer. AnsweredLong answer
-        (S.left script.old) (S.left script.new) (K.held out.old) (K.held out.new)) }
-{
-    let bytes = match load_named(shelf, alloc, request.input) {
-        Ok(bytes) => bytes,
-        Err(status) => return status,
-    };
-    match open(alloc, program, request.input, &bytes, &request.settings) {
-        Ok(mut opened) => {
-            let crew = Crew::new(request.settings.workers);
-            serve(
-                rt,
-                alloc,
-                request.mode,
-                &mut opened,
-                &crew,
-                script,
-                out,
-                gate,
-            )
-        }
-        Err(Refusal::Line(line)) => finish(out, &line, 5),
-        Err(Refusal::NoMemory) => NO_MEMORY,
-    }
-}
 
 // Loads a program and its input, and runs it.
 fn run_request<Rt: Threads + Sync, F: Shelf, S: Source, K: Sink, G: Gate + Sync>(
@@ -116,14 +55,22 @@ fn run_request<Rt: Threads + Sync, F: Shelf, S: Source, K: Sink, G: Gate + Sync>
     ensures much { result.code ≡ 8 → Held (F.files shelf.old) (Some (request_view request.now)) (λ answer. AnsweredLong answer
         (S.left script.old) (S.left script.new) (K.held out.old) (K.held out.new)) }
 {
-    let bytes = match load_named(shelf, alloc, request.program) {
-        Ok(bytes) => bytes,
-        Err(status) => return status,
-    };
-    match accept(alloc, &bytes) {
-        Ok(checked) => run_program(rt, alloc, checked, request, shelf, script, out, gate),
-        Err(Refusal::Line(line)) => finish(out, &line, 4),
-        Err(Refusal::NoMemory) => NO_MEMORY,
+    match open_named(alloc, request, shelf) {
+        Ok(mut opened) => {
+            let crew = Crew::new(request.settings.workers);
+            serve(
+                rt,
+                alloc,
+                request.mode,
+                &mut opened,
+                &crew,
+                script,
+                out,
+                gate,
+            )
+        }
+        Err(Unopened::Refused { line, code }) => finish(out, &line, code),
+        Err(Unopened::Ended(status)) => status,
     }
 }
 

@@ -1,14 +1,13 @@
 -- How a session that is watched ends.
-use Rattle.std.proofs.Common.{◌≡◌, ◌∙◌, ◌⊎◌, inl, inr, ◌≤◌, ◌+◌, ◌↔◌, refl, ap, sym, subst, arith, ℕ, suc, List, [], ◌∷◌, ◌++◌, length, length-append, take, Option, Some, None}
-use Rattle.std.proofs.lemmas.List.{append-nil, take-append-le}
+use Rattle.std.proofs.Common.{◌≡◌, ◌∙◌, ◌⊎◌, inl, inr, ◌≤◌, ◌+◌, refl, ap, sym, subst, arith, ℕ, suc, List, [], ◌∷◌, ◌++◌, length, length-append, take, Option, Some, None}
+use Rattle.std.proofs.lemmas.List.{take-append-le}
 use Rattle.std.proofs.Math.Seq.{take-append-add}
 use Rattle.psac_base.specs.Causes.{Rose}
 use Rattle.psac_base.specs.Feeds.{lines_of}
 use Rattle.psac_base.specs.Outside.{Appended, AppendedPart}
 use Rattle.psac_base.proofs.Wrote.{Appended-append, Appended-nil}
-use Rattle.psac_run.specs.Served.{IsServed}
 use Rattle.psac_session.specs.Answered.{Answer}
-use Rattle.psac_session.specs.Attended.{Attended, AttendedPart, Hearing}
+use Rattle.psac_session.specs.Attended.{Hearing}
 use Rattle.psac_session.specs.Heard.{Heard, Outward, Shows}
 use Rattle.psac_session.specs.declared.end.SessionEnd.{SessionEnd}
 use Rattle.psac_session.specs.declared.end.SessionEnd.TheVariants as end
@@ -20,7 +19,7 @@ use Rattle.psac_watch.specs.Showed.{Showed}
 use Rattle.psac_run.proofs.Parts.{some_script}
 use Rattle.psac_watch.proofs.Growing.{none_shown}
 use Rattle.psac_watch.specs.Ended.{IsEnded, IsWatched, IsWatchedPart}
-use Rattle.psac_watch.specs.Watched.{IsSeenWhole, count_line, course_of, watched_text}
+use Rattle.psac_watch.specs.Watched.{IsSeenWhole, count_line, course_of}
 
 none_done : end.NoMemory ≡ end.Done → ⊥
 none_done e = cc

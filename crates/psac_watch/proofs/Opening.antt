@@ -1,8 +1,8 @@
 -- What a session over an engine came to, as an answer to the words that opened the engine.
-use Rattle.std.proofs.Common.{◌≡◌, ◌∙◌, ◌⊎◌, inl, inr, refl, sym, ap, subst, arith, ℕ, List, Option, Some, None}
+use Rattle.std.proofs.Common.{◌≡◌, refl, ℕ, List, Option, Some, None}
 use Rattle.std.specs.Prelude.{option_map}
 use Rattle.psac_base.specs.Feeds.{lines_of}
-use Rattle.psac_base.specs.Outside.{Appended, AppendedPart}
+use Rattle.psac_base.specs.Outside.{Appended}
 use Rattle.psac_inputs.specs.Batch.{empty_batch, put_all}
 use Rattle.psac_inputs.specs.Grid.{Grid}
 use Rattle.psac_inputs.specs.Texts.{Texts}
@@ -12,17 +12,15 @@ use Rattle.psac_model.specs.Names.{Name, Heap}
 use Rattle.psac_model.specs.Run.{Ran}
 use Rattle.psac_report.specs.Session.{State, begun}
 use Rattle.psac_command.specs.Asked.{Asked}
-use Rattle.psac_engine.specs.declared.engine.Engine.{Engine}
-use Rattle.psac_engine.specs.Engine.{IsOpened, caps_in, grid_in, kept_in, world_in}
+use Rattle.psac_engine.specs.Engine.{caps_in, grid_in, kept_in, world_in}
 use Rattle.psac_session.specs.Answered.{IsScript, answer_of}
 use Rattle.psac_session.specs.Attended.{hearing_of}
 use Rattle.psac_session.specs.State.{kept_of, no_places, opening}
 use Rattle.psac_open.specs.declared.opening.Opened.{Opened}
 use Rattle.psac_open.specs.Loaded.{Files}
-use Rattle.psac_run.specs.Answer.{HasPart, HasText}
-use Rattle.psac_run.proofs.Finished.{text_has_none}
-use Rattle.psac_certify.specs.Answer.{IsAnswer, Reported, Wrote, WrotePart}
-use Rattle.psac_certify.specs.Opening.{Began}
+use Rattle.psac_open.specs.Named.{Began}
+use Rattle.psac_run.specs.Reported.{IsAnswer, Wrote, WrotePart}
+use Rattle.psac_run.proofs.Finished.{opened_answer}
 use Rattle.psac_watch.specs.Over.{Over}
 use Rattle.psac_watch.specs.Ended.{IsWatchedPart}
 use Rattle.psac_watch.specs.Watched.{IsWatch, answer_at, hearing_at, watched_text}
@@ -68,16 +66,7 @@ unfolding over
 answer_on files a o told script b is_script =
     let text = watched_text (answer_of o.engine o.texts) (hearing_of o.engine o.texts) (lines_of script) in
     let is : World → Caps → State → Type 0 = λ w caps s. text ≡ watched_text (answer_at w caps s) (hearing_at w caps s) (lines_of script) in
-    record {
-      program = b.program.0;
-      input = b.input;
-      script = script;
-      answer = Reported a b.accepted b.holds.world b.holds.grid o.texts refl b.program.2 b.holds.opens refl
-          (over files a o is b refl).holds;
-      program_is = b.program.1;
-      input_is = inr b.input_is;
-      script_is = is_script;
-    }
+    opened_answer IsWatch files a o b told script text is_script (over files a o is b refl).holds
 
 pub wrote_report : (files : Files) (a : Asked) (o : Opened) (told before now : Option (List ℕ)) (script : List ℕ)
     → Began files a o → IsScript told script
@@ -96,12 +85,3 @@ wrote_part files a o told before now b part =
       is_answer = answer_on files a o told part.script b part.is_script;
       written = part.written;
     }
-
--- a line of a refusal was written in part
-pub seven : (code status : ℕ) → HasText status → (code ≡ status) ⊎ (code ≡ 7) → HasPart code → code ≡ 7
-seven code status has (inl same) part = absurd (text_has_none status has (rw same at part))
-seven code status has (inr e) part = e
-
-pub has_text : (code : ℕ) → (code ≡ 4) ⊎ (code ≡ 5) → HasText code
-has_text code (inl e) = inr (inr (inl e))
-has_text code (inr e) = inr (inr (inr e))

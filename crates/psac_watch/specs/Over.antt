@@ -1,5 +1,5 @@
 -- What holds of a session over the program and the input of some words.
-use Rattle.std.specs.Prelude.{◌≡◌, ℕ, List, Option, Some}
+use Rattle.std.specs.Prelude.{◌≡◌, ℕ, List, Some}
 use Rattle.psac_base.specs.Outside.{IsFile}
 use Rattle.psac_syntax.specs.declared.program.Program.{Program}
 use Rattle.psac_inputs.specs.Grid.{Grid}
@@ -9,9 +9,8 @@ use Rattle.psac_model.specs.Fresh.{World}
 use Rattle.psac_report.specs.Session.{State, begun}
 use Rattle.psac_command.specs.Asked.{Asked}
 use Rattle.psac_open.specs.Accept.{IsAccepted}
-use Rattle.psac_open.specs.Loaded.{Files}
+use Rattle.psac_open.specs.Loaded.{Files, Words}
 use Rattle.psac_open.specs.Opens.{Opens}
-use Rattle.psac_run.specs.Answer.{Words}
 
 -- it holds of the world and the caps, and of the state in which such a session begins
 pub record Over (files : Files) (words : Words) (is : World → Caps → State → Type 0) : Type 0 where

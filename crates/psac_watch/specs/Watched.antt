@@ -13,7 +13,7 @@ use Rattle.psac_session.specs.Attended.{Hearing}
 use Rattle.psac_session.specs.Heard.{shows_after}
 use Rattle.psac_publish.specs.declared.seen.Seen.{Seen}
 use Rattle.psac_publish.specs.History.{Course}
-use Rattle.psac_certify.specs.Answer.{Report}
+use Rattle.psac_run.specs.Reported.{Report}
 use Rattle.psac_watch.specs.Showed.{Showed}
 
 -- what is answered to lines from a state on, and what is heard of them

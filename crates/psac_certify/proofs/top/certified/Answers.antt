@@ -2,8 +2,8 @@ use Rattle.std.proofs.Common.{rules, ◌≡◌, Some, None, codes, map, string_b
 use Rattle.psac_command.specs.Asked.{single_asked}
 use Rattle.psac_command.specs.Views.{request_view}
 use Rattle.psac_certify.specs.Answer.{IsVerdict}
-use Rattle.psac_certify.proofs.Complete.{complete}
-use Rattle.psac_certify.proofs.Finished.{usage_answer, wrote, wrote_first}
+use Rattle.psac_run.proofs.Complete.{complete}
+use Rattle.psac_run.proofs.Finished.{usage_answer, wrote, wrote_first}
 use Rattle.psac_certify.proofs.top.certified.Goals as goal
 
 pub returns-in-Ok-Some-clause-complete : goal.returns-in-Ok-Some-clause-complete

@@ -2,7 +2,7 @@ use Rattle.std.proofs.Common.{Some}
 use Rattle.psac_command.specs.Views.{request_view}
 use Rattle.psac_run.proofs.Reports.{served_zero}
 use Rattle.psac_certify.specs.Answer.{IsVerdict}
-use Rattle.psac_certify.proofs.Finished.{refused_answer, wrote, wrote_first}
+use Rattle.psac_run.proofs.Finished.{refused_answer, wrote, wrote_first}
 use Rattle.psac_certify.proofs.Gives.{wrote_given, wrote_some}
 use Rattle.psac_certify.proofs.top.certify_named.Goals as goal
 

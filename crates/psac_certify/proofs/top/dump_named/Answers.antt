@@ -1,7 +1,7 @@
 use Rattle.std.proofs.Common.{inl, inr, Some, None}
 use Rattle.psac_command.specs.Views.{request_view}
 use Rattle.psac_certify.specs.Answer.{IsDump}
-use Rattle.psac_certify.proofs.Finished.{refused_answer, wrote, wrote_first}
+use Rattle.psac_run.proofs.Finished.{refused_answer, wrote, wrote_first}
 use Rattle.psac_certify.proofs.Gives.{dump_given, dump_some, wrote_given, wrote_some, zero_with_text}
 use Rattle.psac_certify.proofs.top.dump_named.Goals as goal
 

@@ -3,7 +3,7 @@ use Rattle.psac_command.specs.Asked.{single_asked}
 use Rattle.psac_command.specs.Views.{request_view}
 use Rattle.psac_certify.specs.Answer.{IsDump}
 use Rattle.psac_certify.proofs.Complete.{complete_dump}
-use Rattle.psac_certify.proofs.Finished.{usage_answer, wrote_first}
+use Rattle.psac_run.proofs.Finished.{usage_answer, wrote_first}
 use Rattle.psac_certify.proofs.top.dumped.Goals as goal
 
 pub returns-in-Ok-Some-clause-complete : goal.returns-in-Ok-Some-clause-complete

@@ -1,35 +1,63 @@
-use Rattle.std.proofs.Common.{rules, inl, inr, refl, Some, []}
+use Rattle.std.proofs.Common.{inl, inr, refl, Some}
 use Rattle.psac_command.specs.Views.{request_view}
-use Rattle.psac_run.specs.Answer.{IsAnswer, ProgramRefused}
-use Rattle.psac_run.proofs.Finished.{wrote_as, wrote_first_as}
-use Rattle.psac_run.proofs.Parts.{some_script}
-use Rattle.psac_run.proofs.top.run_request.Given.{Over}
+use Rattle.psac_session.specs.Answered.{Answer, AnsweredLong, AnsweredWhole}
+use Rattle.psac_run.specs.Answer.{IsReport}
+use Rattle.psac_run.proofs.Finished.{has_text, refused_answer, wrote, wrote_some}
+use Rattle.psac_run.proofs.Reports.{held, served_zero, wrote_part, wrote_report}
+use Rattle.psac_run.proofs.Sessions.{long_same, whole_same}
 use Rattle.psac_run.proofs.top.run_request.Goals as goal
 
-pub returns-in-Ok-accept-clause-broken : goal.returns-in-Ok-accept-clause-broken
-returns-in-Ok-accept-clause-broken g c = rw c.load_named.ensures.same at c.run_program.ensures.broken
+pub returns-in-Ok-clause-answered : goal.returns-in-Ok-clause-answered
+returns-in-Ok-clause-answered g c = λ has.
+    let zero = served_zero c.serve.result.code c.serve.ensures.status has in
+    rw zero (wrote_report (g.F.Shelf.files c.args.shelf.now) (request_view c.args.request.now) c.in-Ok.opened
+    (g.S.Source.left c.args.script.now) _ _ c.in-Ok.ensures.opened (c.serve.ensures.whole zero))
 
-pub returns-in-Ok-accept-clause-much : goal.returns-in-Ok-accept-clause-much
-returns-in-Ok-accept-clause-much g c = rw c.load_named.ensures.same at c.run_program.ensures.much
+pub returns-in-Ok-clause-part : goal.returns-in-Ok-clause-part
+returns-in-Ok-clause-part g c = λ has.
+    wrote_part (g.F.Shelf.files c.args.shelf.now) (request_view c.args.request.now) c.in-Ok.opened
+    (g.S.Source.left c.args.script.now) _ _ c.in-Ok.ensures.opened c.serve.ensures.part
 
-program_refused : (g : Over) (c : goal.After-drop-bytes-in-Err-Line g)
-    → IsAnswer 4 c.in-Err-Line.line.items (g.F.Shelf.files c.args.shelf.now) (Some (request_view c.args.request.now)) (g.S.Source.left c.args.script.now)
-program_refused g c =
-    record {
-      program = c.in-Ok.bytes.items;
-      input = [];
-      script = (some_script _).0;
-      answer = ProgramRefused (request_view c.args.request.now) refl (rw (c.deref.ensures.value, c.in-Err-Line.field-0-is) at c.in-Err-Line.ensures.refused) refl;
-      program_is = c.in-Ok.ensures.bytes;
-      input_is = inl refl;
-      script_is = (some_script _).1;
-    }
+pub returns-in-Ok-clause-memory : goal.returns-in-Ok-clause-memory
+returns-in-Ok-clause-memory g c = λ nine.
+    inr (wrote_part (g.F.Shelf.files c.args.shelf.now) (request_view c.args.request.now) c.in-Ok.opened
+    (g.S.Source.left c.args.script.now) _ _ c.in-Ok.ensures.opened c.serve.ensures.part)
 
-pub returns-in-Err-Line-clause-answered : goal.returns-in-Err-Line-clause-answered
-returns-in-Err-Line-clause-answered g c =
-    wrote_as _ 4 c.in-Err-Line.line.items c.deref-in-Err-Line.result.now _ _ _ _ _ (search rules) (program_refused g c) c.finish.ensures.status c.finish.ensures.whole
+pub returns-in-Ok-clause-broken : goal.returns-in-Ok-clause-broken
+returns-in-Ok-clause-broken g c = λ six.
+    held (g.F.Shelf.files c.args.shelf.now) (request_view c.args.request.now) c.in-Ok.opened c.serve.result.code 6
+    (λ (answer : Answer). AnsweredWhole answer (g.S.Source.left c.args.script.now) (g.S.Source.left c.serve.new.script)
+    (g.K.Sink.held c.args.out.now) (g.K.Sink.held c.serve.new.out))
+    c.in-Ok.ensures.opened six (inl refl) c.serve.ensures.single
+    (λ f h same. whole_same f h _ _ _ _ same) (c.serve.ensures.broken six)
 
-pub returns-in-Err-Line-clause-part : goal.returns-in-Err-Line-clause-part
-returns-in-Err-Line-clause-part g c =
-    wrote_first_as _ 4 c.in-Err-Line.line.items c.deref-in-Err-Line.result.now _ _ _ _ _ (search rules) (program_refused g c) (inr (inr (inl refl)))
-    c.finish.ensures.status c.finish.ensures.part
+pub returns-in-Ok-clause-much : goal.returns-in-Ok-clause-much
+returns-in-Ok-clause-much g c = λ eight.
+    held (g.F.Shelf.files c.args.shelf.now) (request_view c.args.request.now) c.in-Ok.opened c.serve.result.code 8
+    (λ (answer : Answer). AnsweredLong answer (g.S.Source.left c.args.script.now) (g.S.Source.left c.serve.new.script)
+    (g.K.Sink.held c.args.out.now) (g.K.Sink.held c.serve.new.out))
+    c.in-Ok.ensures.opened eight (inr refl) c.serve.ensures.single
+    (λ f h same. long_same f h _ _ _ _ same) (c.serve.ensures.much eight)
+
+pub returns-in-Err-Refused-clause-answered : goal.returns-in-Err-Refused-clause-answered
+returns-in-Err-Refused-clause-answered g c =
+    let files = g.F.Shelf.files c.args.shelf.now in
+    let a = request_view c.args.request.now in
+    let told = g.S.Source.left c.args.script.now in
+    let refused = (rw c.in-Err-Refused.field-0-is at c.in-Err-Refused.ensures.refused).1 in
+    wrote (IsReport (Some a)) c.finish.result.code c.in-Err-Refused.code c.in-Err-Refused.line.items files (Some a) told _ _
+    (refused_answer (IsReport (Some a)) files a c.in-Err-Refused.line.items c.in-Err-Refused.code told refused)
+    (rw c.in-Err-Refused.field-0-is at c.finish.ensures.status)
+    (rw (c.deref.ensures.value, c.in-Err-Refused.field-0-is) at c.finish.ensures.whole)
+
+pub returns-in-Err-Refused-clause-part : goal.returns-in-Err-Refused-clause-part
+returns-in-Err-Refused-clause-part g c =
+    let files = g.F.Shelf.files c.args.shelf.now in
+    let a = request_view c.args.request.now in
+    let told = g.S.Source.left c.args.script.now in
+    let both = rw c.in-Err-Refused.field-0-is at c.in-Err-Refused.ensures.refused in
+    wrote_some (IsReport (Some a)) c.finish.result.code c.in-Err-Refused.code c.in-Err-Refused.line.items files (Some a) told _ _
+    (refused_answer (IsReport (Some a)) files a c.in-Err-Refused.line.items c.in-Err-Refused.code told both.1)
+    (has_text c.in-Err-Refused.code both.0)
+    (rw c.in-Err-Refused.field-0-is at c.finish.ensures.status)
+    (rw (c.deref.ensures.value, c.in-Err-Refused.field-0-is) at c.finish.ensures.part)

@@ -1,10 +1,9 @@
 use Rattle.std.proofs.Common.{rules, ◌≡◌, inl, inr, refl, Some, None, map, string_bytes}
 use Rattle.psac_command.specs.Asked.{watch_asked}
 use Rattle.psac_command.specs.Views.{request_view}
-use Rattle.psac_certify.proofs.Complete.{complete}
-use Rattle.psac_certify.proofs.Finished.{usage_answer, wrote, wrote_first}
+use Rattle.psac_run.proofs.Complete.{complete}
+use Rattle.psac_run.proofs.Finished.{usage_answer, wrote, wrote_some}
 use Rattle.psac_watch.specs.Watched.{IsWatch}
-use Rattle.psac_watch.proofs.Opening.{seven}
 use Rattle.psac_watch.proofs.top.watch.Goals as goal
 
 pub returns-in-Ok-Some-clause-complete : goal.returns-in-Ok-Some-clause-complete
@@ -24,11 +23,11 @@ returns-in-Ok-None-clause-answered g c =
     c.finish.ensures.status c.finish.ensures.whole
 
 pub returns-in-Ok-None-clause-part : goal.returns-in-Ok-None-clause-part
-returns-in-Ok-None-clause-part g c = λ some.
+returns-in-Ok-None-clause-part g c =
     let words = watch_asked (map string_bytes c.args.words.now.items) in
     let none : words ≡ None = search rules in
     let files = g.F.Shelf.files c.args.shelf.now in
     let told = g.S.Source.left c.args.script.now in
-    wrote_first IsWatch c.finish.result.code 2 c.usage_line.result.now files words told _ _
+    wrote_some IsWatch c.finish.result.code 2 c.usage_line.result.now files words told _ _
     (usage_answer IsWatch files words c.usage_line.result.now told none c.usage_line.ensures)
-    c.finish.ensures.part (seven c.finish.result.code 2 (inr (inl refl)) c.finish.ensures.status some)
+    (inr (inl refl)) c.finish.ensures.status c.finish.ensures.part

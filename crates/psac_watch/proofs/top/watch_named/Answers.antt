@@ -5,9 +5,9 @@ use Rattle.psac_model.specs.Fresh.{World}
 use Rattle.psac_report.specs.Session.{State}
 use Rattle.psac_session.specs.Answered.{AnsweredLong, AnsweredWhole}
 use Rattle.psac_run.proofs.Reports.{served_zero}
-use Rattle.psac_certify.proofs.Finished.{refused_answer, wrote, wrote_first}
+use Rattle.psac_run.proofs.Finished.{has_text, refused_answer, wrote, wrote_some}
 use Rattle.psac_watch.specs.Watched.{IsSeen, IsSeenWhole, IsWatch, answer_at, hearing_at}
-use Rattle.psac_watch.proofs.Opening.{has_text, over, seven, wrote_part, wrote_report}
+use Rattle.psac_watch.proofs.Opening.{over, wrote_part, wrote_report}
 use Rattle.psac_watch.proofs.top.watch_named.Goals as goal
 
 pub returns-in-Ok-clause-answered : goal.returns-in-Ok-clause-answered
@@ -69,13 +69,13 @@ returns-in-Err-Refused-clause-answered g c =
     (rw (c.deref.ensures.value, c.in-Err-Refused.field-0-is) at c.finish.ensures.whole)
 
 pub returns-in-Err-Refused-clause-part : goal.returns-in-Err-Refused-clause-part
-returns-in-Err-Refused-clause-part g c = λ some.
+returns-in-Err-Refused-clause-part g c =
     let files = g.F.Shelf.files c.args.shelf.now in
     let a = request_view c.args.request.now in
     let told = g.S.Source.left c.args.script.now in
     let both = rw c.in-Err-Refused.field-0-is at c.in-Err-Refused.ensures.refused in
-    let status = rw c.in-Err-Refused.field-0-is at c.finish.ensures.status in
-    wrote_first IsWatch c.finish.result.code c.in-Err-Refused.code c.in-Err-Refused.line.items files (Some a) told _ _
+    wrote_some IsWatch c.finish.result.code c.in-Err-Refused.code c.in-Err-Refused.line.items files (Some a) told _ _
     (refused_answer IsWatch files a c.in-Err-Refused.line.items c.in-Err-Refused.code told both.1)
+    (has_text c.in-Err-Refused.code both.0)
+    (rw c.in-Err-Refused.field-0-is at c.finish.ensures.status)
     (rw (c.deref.ensures.value, c.in-Err-Refused.field-0-is) at c.finish.ensures.part)
-    (seven c.finish.result.code c.in-Err-Refused.code (has_text c.in-Err-Refused.code both.0) status some)

@@ -8,8 +8,8 @@ use Rattle.psac_open.specs.Accept.{Refuses}
 use Rattle.psac_open.specs.Loaded.{Files, HasProgram}
 use Rattle.psac_open.specs.Opens.{RefusesBeside}
 use Rattle.psac_open.specs.Views.{Holds}
-use Rattle.psac_certify.specs.declared.opening.Unopened.{Unopened}
-use Rattle.psac_certify.specs.declared.opening.Unopened.TheVariants as unopened
+use Rattle.psac_open.specs.declared.named.Unopened.{Unopened}
+use Rattle.psac_open.specs.declared.named.Unopened.TheVariants as unopened
 
 -- the program and the input of the words are opened
 pub record Began (files : Files) (a : Asked) (o : Opened) : Type 0 where

@@ -1,6 +1,6 @@
 use Rattle.std.proofs.Common.{inr, refl}
-use Rattle.psac_certify.specs.Opening.{OfInput}
-use Rattle.psac_certify.proofs.opening.open_input.Goals as goal
+use Rattle.psac_open.specs.Named.{OfInput}
+use Rattle.psac_open.proofs.named.open_input.Goals as goal
 
 pub returns-in-Err-Line-clause-refused : goal.returns-in-Err-Line-clause-refused
 returns-in-Err-Line-clause-refused g c = (

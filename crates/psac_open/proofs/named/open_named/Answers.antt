@@ -1,6 +1,6 @@
 use Rattle.std.proofs.Common.{inl, refl}
-use Rattle.psac_certify.specs.Opening.{OfProgram}
-use Rattle.psac_certify.proofs.opening.open_named.Goals as goal
+use Rattle.psac_open.specs.Named.{OfProgram}
+use Rattle.psac_open.proofs.named.open_named.Goals as goal
 
 pub returns-in-Err-Line-clause-refused : goal.returns-in-Err-Line-clause-refused
 returns-in-Err-Line-clause-refused g c =

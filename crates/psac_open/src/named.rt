@@ -1,15 +1,18 @@
-// What is opened for the words of a call.
+// What is opened for the words of a call, by the names of its files.
 ghost use Rattle.std.specs.Prelude.{IfOk, IfErr, Some};
 ghost use Rattle.psac_command.specs.Asked.{AreCaps};
 ghost use Rattle.psac_command.specs.Views.{request_view};
-ghost use Rattle.psac_open.specs.Loaded.{HasProgram, RoseFor};
-ghost use Rattle.psac_run.specs.Answer.{LoadFailed};
-ghost use Rattle.psac_certify.specs.Opening.{Began, WasEnded, WasRefused};
+ghost use Rattle.psac_open.specs.Loaded.{HasProgram, LoadFailed, RoseFor};
+ghost use Rattle.psac_open.specs.Named.{Began, WasEnded, WasRefused};
 
+use crate::load::load_named;
+use crate::opening::{Opened, open};
+use crate::program::accept;
+use crate::refusal::Refusal;
+use crate::status::{NO_MEMORY, Status};
 use psac_base::Shelf;
 use psac_check::Checked;
 use psac_command::Request;
-use psac_open::{NO_MEMORY, Opened, Refusal, Status, accept, load_named, open};
 use std::alloc::Global;
 
 /// Why nothing is opened.
