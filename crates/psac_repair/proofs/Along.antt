@@ -31,25 +31,12 @@ use Rattle.psac_trace.proofs.Valued.{value_known, values_known}
 use Rattle.psac_trace.proofs.Called.{to_old, to_known, linked}
 use Rattle.psac_trace.proofs.Moves.{Narrow, narrow, Matches}
 use Rattle.psac_repair.specs.Scope.{Scope, Inside, Asks, GoesAlong, AllInside, ReadsAlong}
-use Rattle.psac_repair.proofs.Fills.{scope_bind}
+use Rattle.psac_repair.proofs.Fills.{scope_bind, scope_inner}
 
 own : (xs : List ℕ) → all_in xs xs ≡ true
 own xs = all_in_from xs xs (λ x k. k)
 
 module _ (w : Setting Handle) where
-  -- fewer destinations stand open
-  scope_inner : (st : Standing) (inner left : List ℕ) (env : Env Handle) (base : Heap) → Narrow st inner left → Scope w st left env base → Scope w st inner env base
-  scope_inner st inner left env base n r =
-      record {
-        same = r.same;
-        closed = r.closed;
-        cells = r.cells;
-        row_count = r.row_count;
-        knows = r.knows;
-        opens = λ x u e. r.opens x u (n x u e);
-        apart = λ x y m u e f g i j. r.apart x y m u (n x u e) f (n y f g) i j;
-      }
-
   known_at : (st : Standing) (left : List ℕ) (env : Env Handle) (base : Heap) → Scope w st left env base → (e : Expr) → names_known st.known e ≡ true → Where (Named base) (value_of w env e)
   known_at st left env base r = value_known base w r.cells r.row_count r.same env st.known r.knows
 
@@ -127,7 +114,7 @@ module _ (w : Setting Handle) where
         begins = λ base reads sc e.
             let t = scope_reads items reads st b.0 end.unwritten env base sc b.1 (reads_match env sc.same base items reads e) in
             record {
-              scope = scope_inner b.0 l.end.unwritten end.unwritten (with_reads env items reads) base (λ x u i. narrow rest st p.mid end c.0 q p.rest x (back x u) (narrower x i)) t.scope;
+              scope = scope_inner w b.0 l.end.unwritten end.unwritten (with_reads env items reads) base (λ x u i. narrow rest st p.mid end c.0 q p.rest x (back x u) (narrower x i)) t.scope;
               out = λ n z. (z.0, back z.0 z.1, narrower z.0 z.2, sym (t.old z.0 (back z.0 z.1)) ∙ z.3);
               into = λ n z. (z.0, on z.0 z.1, subst (λ y. has z.0 y ≡ false) (sym l.unwritten) z.2, t.old z.0 z.1 ∙ z.3);
             };

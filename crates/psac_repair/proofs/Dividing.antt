@@ -40,7 +40,7 @@ use Rattle.psac_repair.proofs.Leaving.{indexes_append}
 use Rattle.psac_repair.proofs.Linking.{distinct_front, distinct_back, distinct_apart}
 use Rattle.psac_repair.proofs.Passing.{node_at}
 use Rattle.psac_repair.proofs.Parting.{is_in, is_out, outside_shared, beside_not_left, beside_not_right, not_over, left_kept, right_kept, Sh, Ri, L, K}
-use Rattle.psac_repair.proofs.Rewiring.{wrote_slot, writes_first, writes_second, index_of, index_sum, index_cases, index_left, index_right, live_sum, named_more, distinct_both, node_wider, led_on, outer_led, node_led}
+use Rattle.psac_repair.proofs.Rewiring.{wrote_slot, writes_first, writes_second, index_of, index_sum, index_cases, index_left, index_right, live_sum, named_more, distinct_both, node_wider, led_on, outer_led, node_led, covers_both, sums_both}
 
 no_and : (b : Bool) → (b && false) ≡ false
 no_and true = refl
@@ -359,16 +359,6 @@ module _ (r : ReadersView) (m : MarksView) (us : List ℕ) (above : Option Handl
             once = once;
             gone_is = relinks_joined.gone_is;
             entered = relinks_joined.entered;
-            covers = λ x i. ⊎_elim
-                (λ (c : Member x (indexes (links_of u))). ⊎_elim (λ (d : Member x (indexes (links_of l))). inl (index_left x (links_of l) (links_of k) d)) (λ (d : Member x (indexes made)). inr (index_left x made new d)) (xa.covers x c))
-                (λ (c : Member x (indexes (links_of v))). ⊎_elim (λ (d : Member x (indexes (links_of k))). inl (index_right x (links_of l) (links_of k) d)) (λ (d : Member x (indexes new)). inr (index_right x made new d)) (xb.covers x c))
-                (index_cases x (links_of u) (links_of v) i);
-            sums = λ g.
-                let c = sum_by-append g (links_of u) (links_of v) in
-                let d = sum_by-append g (links_of l) (links_of k) in
-                let e = sum_by-append g gone left in
-                let f = sum_by-append g made new in
-                let h = xa.sums g in
-                let i = xb.sums g in
-                omega (arith, c, d, e, f, h, i);
+            covers = covers_both (links_of l) (links_of k) (links_of u) (links_of v) made new xa.covers xb.covers;
+            sums = sums_both (links_of l) (links_of k) (links_of u) (links_of v) gone left made new xa.sums xb.sums;
           }

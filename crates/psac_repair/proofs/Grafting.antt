@@ -254,32 +254,32 @@ differ_apart [] b d q z i j e = absurd i
 differ_apart (p ∷ a) b d q z (inl s) j e = d.0 z.0 (head_in z (a ++ b) (member_right z a b j)) (e ∙ ap (λ (w : Pair). w.0.slot) (sym s))
 differ_apart (p ∷ a) b d q z (inr i) j e = differ_apart a b d.1 q z i j e
 
+once_pair : (par : Option Handle) (n : Handle) (t r : Kept) → Differ (heads (nodes_below par (S n t r))) → Once t → Once r
+    → Once (S n t r)
+once_pair par n t r d first second =
+    let x = nodes_below (Some n) t in
+    let y = nodes_below (Some n) r in (
+      λ i. ⊎_elim
+          (λ (j : Member n.slot (slots t)). let a = slot_pair (Some n) t n.slot j in d.0 a.0.0 (head_in a.0 (x ++ y) (member_left a.0 x y a.1)) a.2)
+          (λ (j : Member n.slot (slots r)). let a = slot_pair (Some n) r n.slot j in d.0 a.0.0 (head_in a.0 (x ++ y) (member_right a.0 x y a.1)) a.2)
+          (member_cases n.slot (slots t) (slots r) i),
+      λ z i j. let a = slot_pair (Some n) t z i in let b = slot_pair (Some n) r z j in differ_apart x y d.1 a.0 b.0 a.1 b.1 (b.2 ∙ sym a.2),
+      first,
+      second,
+    )
+
 once_heads : (par : Option Handle) (k : Kept) → Differ (heads (nodes_below par k)) → Once k
 once_heads par E d = tt
 once_heads par (A m r) d = once_heads par r d
 once_heads par (W m v r) d = once_heads par r d
 once_heads par (S n t r) d =
     let x = nodes_below (Some n) t in
-    let y = nodes_below (Some n) r in (
-      λ i. ⊎_elim
-          (λ (j : Member n.slot (slots t)). let a = slot_pair (Some n) t n.slot j in d.0 a.0.0 (head_in a.0 (x ++ y) (member_left a.0 x y a.1)) a.2)
-          (λ (j : Member n.slot (slots r)). let a = slot_pair (Some n) r n.slot j in d.0 a.0.0 (head_in a.0 (x ++ y) (member_right a.0 x y a.1)) a.2)
-          (member_cases n.slot (slots t) (slots r) i),
-      λ z i j. let a = slot_pair (Some n) t z i in let b = slot_pair (Some n) r z j in differ_apart x y d.1 a.0 b.0 a.1 b.1 (b.2 ∙ sym a.2),
-      once_heads (Some n) t (differ_front x y d.1),
-      once_heads (Some n) r (differ_back x y d.1),
-    )
+    let y = nodes_below (Some n) r in
+    once_pair par n t r d (once_heads (Some n) t (differ_front x y d.1)) (once_heads (Some n) r (differ_back x y d.1))
 once_heads par (P n t r) d =
     let x = nodes_below (Some n) t in
-    let y = nodes_below (Some n) r in (
-      λ i. ⊎_elim
-          (λ (j : Member n.slot (slots t)). let a = slot_pair (Some n) t n.slot j in d.0 a.0.0 (head_in a.0 (x ++ y) (member_left a.0 x y a.1)) a.2)
-          (λ (j : Member n.slot (slots r)). let a = slot_pair (Some n) r n.slot j in d.0 a.0.0 (head_in a.0 (x ++ y) (member_right a.0 x y a.1)) a.2)
-          (member_cases n.slot (slots t) (slots r) i),
-      λ z i j. let a = slot_pair (Some n) t z i in let b = slot_pair (Some n) r z j in differ_apart x y d.1 a.0 b.0 a.1 b.1 (b.2 ∙ sym a.2),
-      once_heads (Some n) t (differ_front x y d.1),
-      once_heads (Some n) r (differ_back x y d.1),
-    )
+    let y = nodes_below (Some n) r in
+    once_pair par n t r d (once_heads (Some n) t (differ_front x y d.1)) (once_heads (Some n) r (differ_back x y d.1))
 once_heads par (R b t) d = (
   λ i. let a = slot_pair (Some b.node) t b.node.slot i in d.0 a.0.0 (head_in a.0 (nodes_below (Some b.node) t) a.1) a.2,
   once_heads (Some b.node) t d.1,

@@ -44,7 +44,7 @@ use Rattle.psac_repair.specs.Taken.{indexes}
 use Rattle.psac_repair.specs.Rewired.{Wired, Relinks, Ordered}
 use Rattle.psac_repair.specs.Watched.{Woken}
 use Rattle.psac_repair.specs.Exchanged.{Replaced}
-use Rattle.psac_repair.specs.Going.{Views, claims_of, Lasting, Beside, Went, After, WentBelow, AfterBelow}
+use Rattle.psac_repair.specs.Going.{Views, claims_of, Lasting, RoomAfter, FullBy, Beside, Went, After, WentBelow, AfterBelow}
 use Rattle.psac_repair.specs.WalkLaws as walk
 use Rattle.psac_repair.proofs.Adding.{quiet_kept, made_adds, wrote_adds, inner_adds, rest_adds, block_adds, turns_add, untried_adds}
 use Rattle.psac_repair.proofs.Drawing.{no_draw, with_none, long_both}
@@ -64,7 +64,7 @@ use Rattle.psac_repair.proofs.Replacing.{like_is, taken_same, given_same, both_a
 use Rattle.psac_repair.proofs.Replacing.{replaced_kept, replaced_made, replaced_wrote, replaced_block, replaced_parts, replaced_pair}
 use Rattle.psac_repair.proofs.Visiting.{made_unread, unshared_on}
 use Rattle.psac_repair.proofs.Dividing.{pair_wired, pair_ordered}
-use Rattle.psac_repair.proofs.Visiting.{good_then}
+use Rattle.psac_repair.proofs.Visiting.{good_then, bad_told}
 
 -- what lasts
 
@@ -220,6 +220,26 @@ pub woken_cleared : (n : Handle) (us : List ℕ) (p q : Views) → ((x : ℕ) �
 woken_cleared n us p q out a =
     outside_woke p.readers p.values q.values q.marks (cleared n.slot q.marks) us us (λ y i. i)
     (λ y i b. (passed_cleared q.marks us (n.slot ∷ []) n.slot (inl refl)).busy y (λ j. elim j [ inl e ↦ out y i e | inr k ↦ absurd k ]) b) a
+
+-- what a part leaves that isn't done: of what it leaves where it is done, nothing is told
+stopped : (T : ValueView → ValueView → (CapKind → ℕ) → Ended → Type 0) (us : List ℕ) (above : Option Handle)
+    (k new : Kept) (p q : Views) (e : Ended) → is_good e ≡ false → (l : Lasting p q) → T p.values q.values l.drawn e
+    → RoomAfter q e → FullBy p q e → (gone made : List Stands) → l.drew cap.Links ≡ length made
+    → Relinks p.readers q.readers k gone made → After T us above k new p q e
+stopped T us above k new p q e bad l tells room full gone made drew relinks =
+    record {
+      lasting = l;
+      tells = tells;
+      room = room;
+      full = full;
+      gone = gone;
+      made = made;
+      links_drew = drew;
+      relinks = relinks;
+      beside = bad_told (Beside us k p q) e bad;
+      went = bad_told (Went us above k new gone made p q) e bad;
+      replaced = bad_told (Replaced k new l.mods (handles_in l.nodes) l.gone_nodes) e bad;
+    }
 
 module _ (g : Program) where
   abbrev pub Q : List Stmt → Type 0
@@ -482,33 +502,13 @@ module _ (g : Program) where
       pub step_stop : (u new : Kept) (q : Views) (e : Ended) → is_good e ≡ false → PartGone wide (Some n) r t u p q e → Gone us above (S n t r) new p q e
       step_stop u new q (Good z) f a = absurd cc
       step_stop u new q (Fault why line) f a =
-          record {
-            lasting = a.lasting;
-            tells = tells_stop g.setting g.funcs Q closed go reading p.values q.values (bare t) (bare r) a.lasting.drawn why line a.tells;
-            room = a.room;
-            full = tt;
-            gone = a.gone;
-            made = a.made;
-            links_drew = a.links_drew;
-            relinks = step_relinks a.gone a.made q a.relinks;
-            beside = tt;
-            went = tt;
-            replaced = tt;
-          }
+          let tells = tells_stop g.setting g.funcs Q closed go reading p.values q.values (bare t) (bare r) a.lasting.drawn why line a.tells in
+          stopped _ _ _ _ _ _ _ (Fault why line) f a.lasting tells a.room tt a.gone a.made a.links_drew
+          (step_relinks a.gone a.made q a.relinks)
       step_stop u new q (Other want) f a =
-          record {
-            lasting = a.lasting;
-            tells = tells_cut g.setting g.funcs Q closed go reading p.values q.values (bare t) (bare r) a.lasting.drawn want a.tells;
-            room = tt;
-            full = a.full;
-            gone = a.gone;
-            made = a.made;
-            links_drew = a.links_drew;
-            relinks = step_relinks a.gone a.made q a.relinks;
-            beside = tt;
-            went = tt;
-            replaced = tt;
-          }
+          let tells = tells_cut g.setting g.funcs Q closed go reading p.values q.values (bare t) (bare r) a.lasting.drawn want a.tells in
+          stopped _ _ _ _ _ _ _ (Other want) f a.lasting tells tt a.full a.gone a.made a.links_drew
+          (step_relinks a.gone a.made q a.relinks)
 
       module _ (u : Kept) (q : Views) (a : PartGone wide (Some n) r t u p q (Good (bare u))) where
         -- where it is done the rest begins
@@ -577,35 +577,8 @@ module _ (g : Program) where
   -- one of both parts isn't done
   pub below_stop : (T : ValueView → ValueView → (CapKind → ℕ) → Ended → Type 0) (us : List ℕ) (above : Option Handle) (n : Handle) (f : Kept → Kept → Kept) (t r u w new : Kept) (p q : Views) (e : Ended)
       → is_good e ≡ false → AfterBelow T us n f t r u w p q e → After T us above (f t r) new p q e
-  below_stop T us above n f t r u w new p q (Good z) h a = absurd cc
-  below_stop T us above n f t r u w new p q (Fault why line) h a =
-      record {
-        lasting = a.lasting;
-        tells = a.tells;
-        room = a.room;
-        full = tt;
-        gone = a.gone;
-        made = a.made;
-        links_drew = a.links_drew;
-        relinks = a.relinks;
-        beside = tt;
-        went = tt;
-        replaced = tt;
-      }
-  below_stop T us above n f t r u w new p q (Other want) h a =
-      record {
-        lasting = a.lasting;
-        tells = a.tells;
-        room = tt;
-        full = a.full;
-        gone = a.gone;
-        made = a.made;
-        links_drew = a.links_drew;
-        relinks = a.relinks;
-        beside = tt;
-        went = tt;
-        replaced = tt;
-      }
+  below_stop T us above n f t r u w new p q e h a =
+      stopped T us above (f t r) new p q e h a.lasting a.tells a.room a.full a.gone a.made a.links_drew a.relinks
 
   -- the body of an `if` or a `call`, as a part of the body that it stands in
 
@@ -746,34 +719,12 @@ module _ (g : Program) where
       right_stop w new x (Good z) f c = absurd cc
       right_stop w new x (Fault why line) f c =
           let d = right_after w x (Fault why line) c in
-          record {
-            lasting = d.lasting;
-            tells = d.tells;
-            room = d.room;
-            full = tt;
-            gone = d.gone;
-            made = d.made;
-            links_drew = d.links_drew;
-            relinks = relinks_as (S n l k) (P n l k) d.gone d.made p x refl d.relinks;
-            beside = tt;
-            went = tt;
-            replaced = tt;
-          }
+          stopped _ _ _ _ _ _ _ (Fault why line) f d.lasting d.tells d.room tt d.gone d.made d.links_drew
+          (relinks_as (S n l k) (P n l k) d.gone d.made p x refl d.relinks)
       right_stop w new x (Other want) f c =
           let d = right_after w x (Other want) c in
-          record {
-            lasting = d.lasting;
-            tells = d.tells;
-            room = tt;
-            full = d.full;
-            gone = d.gone;
-            made = d.made;
-            links_drew = d.links_drew;
-            relinks = relinks_as (S n l k) (P n l k) d.gone d.made p x refl d.relinks;
-            beside = tt;
-            went = tt;
-            replaced = tt;
-          }
+          stopped _ _ _ _ _ _ _ (Other want) f d.lasting d.tells tt d.full d.gone d.made d.links_drew
+          (relinks_as (S n l k) (P n l k) d.gone d.made p x refl d.relinks)
 
       module _ (w : Kept) (x : Views) (c : Gone (outer us above n l k p) (Some n) k w q x (Good (bare w))) where
         pub pair_owns : Owns x.marks n
@@ -857,33 +808,11 @@ module _ (g : Program) where
       pub block_stop : (u new : Kept) (q : Views) (e : Ended) → is_good e ≡ false → Gone below_it (Some c.node) t u p q e → PartGone us above rest (R c t) new p q (then_ended (block_round c) e)
       block_stop u new q (Good z) f a = absurd cc
       block_stop u new q (Fault why line) f a =
-          record {
-            lasting = a.lasting;
-            tells = block_tells u q (Fault why line) a;
-            room = a.room;
-            full = tt;
-            gone = a.gone;
-            made = a.made;
-            links_drew = a.links_drew;
-            relinks = block_relinks a.gone a.made q a.relinks;
-            beside = tt;
-            went = tt;
-            replaced = tt;
-          }
+          stopped _ _ _ _ _ _ _ (Fault why line) f a.lasting (block_tells u q (Fault why line) a) a.room tt
+          a.gone a.made a.links_drew (block_relinks a.gone a.made q a.relinks)
       block_stop u new q (Other want) f a =
-          record {
-            lasting = a.lasting;
-            tells = block_tells u q (Other want) a;
-            room = tt;
-            full = a.full;
-            gone = a.gone;
-            made = a.made;
-            links_drew = a.links_drew;
-            relinks = block_relinks a.gone a.made q a.relinks;
-            beside = tt;
-            went = tt;
-            replaced = tt;
-          }
+          stopped _ _ _ _ _ _ _ (Other want) f a.lasting (block_tells u q (Other want) a) tt a.full
+          a.gone a.made a.links_drew (block_relinks a.gone a.made q a.relinks)
 
       module _ (u : Kept) (q : Views) (a : Gone below_it (Some c.node) t u p q (Good (bare u))) where
         pub block_owns_it : Owns q.marks c.node

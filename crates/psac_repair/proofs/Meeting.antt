@@ -21,6 +21,7 @@ use Rattle.psac_record.specs.Kept.{Kept, P}
 use Rattle.psac_trace.specs.Fit.{Rooted}
 use Rattle.psac_trace.proofs.Sums.{back_is, above_is}
 use Rattle.psac_repair.specs.Planted.{slots, Children, NoneMarked, IsMade, Planted, Passed, Replanted, Halves}
+use Rattle.psac_repair.proofs.Rooting.{joined_own}
 use Rattle.psac_repair.proofs.Passing.{times_none, Here, node_at, own_has, lacks_not, kept_back, has_on, had_on}
 use Rattle.psac_repair.proofs.Parting.{is_in, in_is, nodes_map, families_map, child_in, Sh, Ri, L, K, beside, apart_sides, left_not_shared, right_not_shared, dropped_not_shared, not_over, left_own, right_own, stays_left, goes_right, shared_has, planted_left, planted_right}
 
@@ -94,11 +95,7 @@ module _ (m : MarksView) (rooted : Rooted m) (us : List ℕ) (above : Option Han
     stem_is = ap stem pa.branch ∙ stem_push m.claims.branch false
 
     own_is : j.own ≡ (a.own ++ b.own) ++ map ways.back (map (ways.lend m.claims.branch) lent_own)
-    own_is =
-        ap (λ (z : MarksView). z.own) is
-        ∙ ap (λ c. (a.own ++ b.own) ++ map ways.back (filter (comes_back ways c) a.shared)) stem_is
-        ∙ ap (λ k. (a.own ++ b.own) ++ map ways.back (filter (comes_back ways m.claims.branch) k)) pa.shared
-        ∙ ap (λ k. (a.own ++ b.own) ++ map ways.back k) (back_is ways S T (rights_of m) rooted.labels (λ o. refl))
+    own_is = joined_own m rooted S T a b j pa.branch pa.shared is
 
     from_left : (o : OwnView) → Member o a.own → Member o j.own
     from_left o i = subst (Member o) (sym own_is) (member_left o (a.own ++ b.own) (map ways.back (map (ways.lend m.claims.branch) lent_own)) (member_left o a.own b.own i))

@@ -10,7 +10,7 @@ use Rattle.psac_marks.specs.declared.view.SharedView.{SharedView}
 use Rattle.psac_marks.specs.declared.view.MarksView.{MarksView}
 use Rattle.psac_marks.specs.Marked.{Place, places, own_place, shared_place, Has}
 use Rattle.psac_marks.specs.Steps.{Lacks, cleared, dropping}
-use Rattle.psac_marks.specs.Passes.{IsKept, slot_of}
+use Rattle.psac_marks.specs.Passes.{IsKept, slot_of, IsBusy}
 use Rattle.psac_marks.proofs.Parts.{place_own, place_shared, place_cases, times_else}
 use Rattle.psac_marks.proofs.Counted.{times_both, times_member, times_found}
 use Rattle.psac_record.specs.Kept.{Kept, E, A, W, S, P, R}
@@ -151,31 +151,12 @@ module _ (m n : MarksView) (us inside : List ℕ) (p : Passed m n us inside) whe
       ])
       (in_or_out x inside))
 
--- nothing was done
-pub passed_none : (m : MarksView) (us inside : List ℕ) → Passed m m us inside
-passed_none m us inside =
-    record {
-      made = [];
-      gone = [];
-      raised = [];
-      branch = refl;
-      shared = refl;
-      keeps = λ o i. i;
-      own = λ o i. inl i;
-      has = λ o i. absurd i;
-      new = λ o i. absurd i;
-      below = λ o p i. absurd i;
-      dropped = λ x. omega arith;
-      gone_is = λ x i. absurd i;
-      marked = λ x out. omega arith;
-      raised_is = λ x i. absurd i;
-      busy = λ x out b. b;
-    }
-
--- a node was cleared
-pub passed_cleared : (m : MarksView) (us inside : List ℕ) (x : ℕ) → Member x inside → Passed m (cleared x m) us inside
-passed_cleared m us inside x i =
-    let else_one : (z : ℕ) → (Member z inside → ⊥) → z ≢ x = λ z out e. out (subst (λ y. Member y inside) (sym e) i) in
+-- only counts and marks of nodes inside changed
+passed_counts : (m : MarksView) (us inside marked busy : List ℕ)
+    → ((x : ℕ) → (Member x inside → ⊥) → times x marked ≡ times x m.marked)
+    → ((x : ℕ) → (Member x inside → ⊥) → IsBusy m x → IsBusy (record m { marked = marked; busy = busy }) x)
+    → Passed m (record m { marked = marked; busy = busy }) us inside
+passed_counts m us inside marked busy same on =
     record {
       made = [];
       gone = [];
@@ -189,14 +170,26 @@ passed_cleared m us inside x i =
       below = λ o p j. absurd j;
       dropped = λ z. omega arith;
       gone_is = λ z j. absurd j;
-      marked = λ z out. let t = times_else z x m.marked (else_one z out) in omega (arith, t);
+      marked = λ z out. let t = same z out in omega (arith, t);
       raised_is = λ z j. absurd j;
-      busy = λ z out b.
-          elim b [
-            | inl a ↦ inl (let t = times_else z x m.marked (else_one z out) in omega (arith, t, a))
-            | inr a ↦ inr (let t = times_else z x m.busy (else_one z out) in omega (arith, t, a))
-          ];
+      busy = on;
     }
+
+-- nothing was done
+pub passed_none : (m : MarksView) (us inside : List ℕ) → Passed m m us inside
+passed_none m us inside = passed_counts m us inside m.marked m.busy (λ x out. refl) (λ x out b. b)
+
+-- a node was cleared
+pub passed_cleared : (m : MarksView) (us inside : List ℕ) (x : ℕ) → Member x inside → Passed m (cleared x m) us inside
+passed_cleared m us inside x i =
+    let else_one : (z : ℕ) → (Member z inside → ⊥) → z ≢ x = λ z out e. out (subst (λ y. Member y inside) (sym e) i) in
+    passed_counts m us inside (cleared x m).marked (cleared x m).busy
+    (λ z out. times_else z x m.marked (else_one z out))
+    (λ z out b.
+    elim b [
+      | inl a ↦ inl (let t = times_else z x m.marked (else_one z out) in omega (arith, t, a))
+      | inr a ↦ inr (let t = times_else z x m.busy (else_one z out) in omega (arith, t, a))
+    ])
 
 -- nodes inside were dropped
 pub passed_dropping : (m : MarksView) (us inside xs : List ℕ) → ((x : ℕ) → Member x xs → Member x inside) → Passed m (dropping xs m) us inside

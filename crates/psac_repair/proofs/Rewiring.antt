@@ -203,6 +203,35 @@ index_left l a b i = subst (Member l) (sym (indexes_append a b)) (member_left l 
 pub index_right : (l : ℕ) (a b : List Stands) → Member l (indexes b) → Member l (indexes (a ++ b))
 index_right l a b i = subst (Member l) (sym (indexes_append a b)) (member_right l (indexes a) (indexes b) i)
 
+-- what covers the new links of both parts, and how both add up
+pub covers_both : (t k u v made new : List Stands)
+    → ((x : ℕ) → Member x (indexes u) → Member x (indexes t) ⊎ Member x (indexes made))
+    → ((x : ℕ) → Member x (indexes v) → Member x (indexes k) ⊎ Member x (indexes new))
+    → (x : ℕ) → Member x (indexes (u ++ v)) → Member x (indexes (t ++ k)) ⊎ Member x (indexes (made ++ new))
+covers_both t k u v made new a b x i = ⊎_elim
+    (λ (j : Member x (indexes u)). ⊎_elim
+    (λ (c : Member x (indexes t)). inl (index_left x t k c))
+    (λ (c : Member x (indexes made)). inr (index_left x made new c))
+    (a x j))
+    (λ (j : Member x (indexes v)). ⊎_elim
+    (λ (c : Member x (indexes k)). inl (index_right x t k c))
+    (λ (c : Member x (indexes new)). inr (index_right x made new c))
+    (b x j))
+    (index_cases x u v i)
+
+pub sums_both : (t k u v gone left made new : List Stands)
+    → ((g : Stands → ℕ) → sum_by g u + sum_by g gone ≡ sum_by g t + sum_by g made)
+    → ((g : Stands → ℕ) → sum_by g v + sum_by g left ≡ sum_by g k + sum_by g new)
+    → (g : Stands → ℕ) → sum_by g (u ++ v) + sum_by g (gone ++ left) ≡ sum_by g (t ++ k) + sum_by g (made ++ new)
+sums_both t k u v gone left made new a b g =
+    let e = sum_by-append g u v in
+    let f = sum_by-append g t k in
+    let h = sum_by-append g gone left in
+    let i = sum_by-append g made new in
+    let y = a g in
+    let z = b g in
+    omega (arith, e, f, h, i, y, z)
+
 -- links are of nodes of the record
 pub reads_node : (n : Handle) (reads : List Seen) (s : Stands) → Member s (map (stands n) reads) → s.node ≡ n
 reads_node n reads s i = let q = member_map (stands n) s reads i in ap (λ (z : Stands). z.node) (sym q.2)
@@ -263,30 +292,30 @@ led_node m ws (Some c) h s up i =
       λ f j. ⊎_elim (λ (d : e ≡ f). subst (λ (z : Place). Member z.node.slot ws) d i) (λ (d : Member f up.0). up.2 f d) j,
     )
 
+-- below a node that leads there both of its parts do
+led_pair : (m : MarksView) (ws : List ℕ) (n : Handle) (t r : Kept) → LeadsIn m ws n.slot
+    → ((x : ℕ) → Member x (slots t) → LeadsIn m ws x) → ((x : ℕ) → Member x (slots r) → LeadsIn m ws x)
+    → (x : ℕ) → Member x (slots (S n t r)) → LeadsIn m ws x
+led_pair m ws n t r here first second x i =
+    elim i [
+      | inl e ↦ subst (LeadsIn m ws) e here
+      | inr j ↦ ⊎_elim (first x) (second x) (member_cases x (slots t) (slots r) j)
+    ]
+
 pub led_nodes : (m : MarksView) (ws : List ℕ) (above : Option Handle) (k : Kept) → Nodes m above k → IfSome above (λ c. LeadsIn m ws c.slot) → ((x : ℕ) → Member x (slots k) → Member x ws) → (x : ℕ) → Member x (slots k) → LeadsIn m ws x
 led_nodes m ws above E ns up all x i = absurd i
 led_nodes m ws above (A h r) ns up all x i = led_nodes m ws above r ns up all x i
 led_nodes m ws above (W h v r) ns up all x i = led_nodes m ws above r ns up all x i
 led_nodes m ws above (S n t r) ns up all x i =
     let here : LeadsIn m ws n.slot = led_node m ws above n ns.0 up (all n.slot (inl refl)) in
-    elim i [
-      | inl e ↦ subst (LeadsIn m ws) e here
-      | inr j ↦
-          ⊎_elim
-          (λ (a : Member x (slots t)). led_nodes m ws (Some n) t ns.1 here (λ y b. all y (inr (member_left y (slots t) (slots r) b))) x a)
-          (λ (a : Member x (slots r)). led_nodes m ws (Some n) r ns.2 here (λ y b. all y (inr (member_right y (slots t) (slots r) b))) x a)
-          (member_cases x (slots t) (slots r) j)
-    ]
+    led_pair m ws n t r here
+    (led_nodes m ws (Some n) t ns.1 here (λ y b. all y (inr (member_left y (slots t) (slots r) b))))
+    (led_nodes m ws (Some n) r ns.2 here (λ y b. all y (inr (member_right y (slots t) (slots r) b)))) x i
 led_nodes m ws above (P n t r) ns up all x i =
     let here : LeadsIn m ws n.slot = led_node m ws above n ns.0 up (all n.slot (inl refl)) in
-    elim i [
-      | inl e ↦ subst (LeadsIn m ws) e here
-      | inr j ↦
-          ⊎_elim
-          (λ (a : Member x (slots t)). led_nodes m ws (Some n) t ns.1 here (λ y b. all y (inr (member_left y (slots t) (slots r) b))) x a)
-          (λ (a : Member x (slots r)). led_nodes m ws (Some n) r ns.2 here (λ y b. all y (inr (member_right y (slots t) (slots r) b))) x a)
-          (member_cases x (slots t) (slots r) j)
-    ]
+    led_pair m ws n t r here
+    (led_nodes m ws (Some n) t ns.1 here (λ y b. all y (inr (member_left y (slots t) (slots r) b))))
+    (led_nodes m ws (Some n) r ns.2 here (λ y b. all y (inr (member_right y (slots t) (slots r) b)))) x i
 led_nodes m ws above (R b t) ns up all x i =
     let here : LeadsIn m ws b.node.slot = led_node m ws above b.node ns.0 up (all b.node.slot (inl refl)) in
     elim i [
@@ -505,18 +534,8 @@ module _ (r : ReadersView) (m : MarksView) (us : List ℕ) (above : Option Handl
           once = both.once;
           gone_is = both.gone_is;
           entered = both.entered;
-          covers = λ l i. ⊎_elim
-              (λ (j : Member l (indexes (links_of u))). ⊎_elim (λ (c : Member l (indexes (links_of t))). inl (index_left l (links_of t) (links_of k) c)) (λ (c : Member l (indexes made)). inr (index_left l made new c)) (a.covers l j))
-              (λ (j : Member l (indexes (links_of v))). ⊎_elim (λ (c : Member l (indexes (links_of k))). inl (index_right l (links_of t) (links_of k) c)) (λ (c : Member l (indexes new)). inr (index_right l made new c)) (b.covers l j))
-              (index_cases l (links_of u) (links_of v) i);
-          sums = λ g.
-              let e = sum_by-append g (links_of u) (links_of v) in
-              let f = sum_by-append g (links_of t) (links_of k) in
-              let h = sum_by-append g gone left in
-              let i = sum_by-append g made new in
-              let y = a.sums g in
-              let z = b.sums g in
-              omega (arith, e, f, h, i, y, z);
+          covers = covers_both (links_of t) (links_of k) (links_of u) (links_of v) made new a.covers b.covers;
+          sums = sums_both (links_of t) (links_of k) (links_of u) (links_of v) gone left made new a.sums b.sums;
         }
       where
         both : Relinks r x (S n t k) (gone ++ left) (made ++ new)

@@ -13,7 +13,7 @@ use Rattle.psac_marks.specs.declared.view.OwnView.{OwnView}
 use Rattle.psac_marks.specs.declared.view.SharedView.{SharedView}
 use Rattle.psac_marks.specs.declared.view.MarksView.{MarksView}
 use Rattle.psac_marks.specs.Marked.{Place, places, own_place, shared_place, Has, HasOwn, ways, rights_of}
-use Rattle.psac_marks.specs.Steps.{Lacks, joined, goes_over, now_shared}
+use Rattle.psac_marks.specs.Steps.{Lacks, left_of, joined, goes_over, now_shared}
 use Rattle.psac_marks.specs.Passes.{IsKept, IsDropped, United}
 use Rattle.psac_marks.proofs.Parts.{place_own, place_shared, place_cases}
 use Rattle.psac_marks.proofs.Counted.{times_both}
@@ -27,6 +27,16 @@ use Rattle.psac_repair.proofs.Parting.{is_in, in_is, filter_some, child_in, Sh, 
 not_is : (b : Bool) → not b ≡ true → b ≡ false
 not_is true e = absurd cc
 not_is false e = refl
+
+-- the own nodes of two sides joined: those of both, and those that were lent come back
+pub joined_own : (m : MarksView) → Rooted m → (S T : ℕ → Bool) (a b j : MarksView) → a.claims.branch ≡ (left_of S T m).claims.branch
+    → a.shared ≡ (left_of S T m).shared → j ≡ joined a b
+    → j.own ≡ (a.own ++ b.own) ++ map ways.back (map (ways.lend m.claims.branch) (filter (lends ways S T) m.own))
+joined_own m rooted S T a b j branch shared is =
+    ap (λ (z : MarksView). z.own) is
+    ∙ ap (λ c. (a.own ++ b.own) ++ map ways.back (filter (comes_back ways c) a.shared)) (ap stem branch ∙ stem_push m.claims.branch false)
+    ∙ ap (λ c. (a.own ++ b.own) ++ map ways.back (filter (comes_back ways m.claims.branch) c)) shared
+    ∙ ap (λ c. (a.own ++ b.own) ++ map ways.back c) (back_is ways S T (rights_of m) rooted.labels (λ o. refl))
 
 module _ (m : MarksView) (rooted : Rooted m) (us : List ℕ) (above : Option Handle) (n : Handle) (l k : Kept) (p : Planted m us above (P n l k)) where
   abbrev S : ℕ → Bool
@@ -172,15 +182,8 @@ module _ (m : MarksView) (rooted : Rooted m) (us : List ℕ) (above : Option Han
     abbrev lent_own : List OwnView
     lent_own = filter (lends ways S T) m.own
 
-    stem_is : stem a.claims.branch ≡ m.claims.branch
-    stem_is = ap stem pa.branch ∙ stem_push m.claims.branch false
-
     own_is : j.own ≡ (a.own ++ b.own) ++ map ways.back (map (ways.lend m.claims.branch) lent_own)
-    own_is =
-        ap (λ (z : MarksView). z.own) is
-        ∙ ap (λ c. (a.own ++ b.own) ++ map ways.back (filter (comes_back ways c) a.shared)) stem_is
-        ∙ ap (λ c. (a.own ++ b.own) ++ map ways.back (filter (comes_back ways m.claims.branch) c)) pa.shared
-        ∙ ap (λ c. (a.own ++ b.own) ++ map ways.back c) (back_is ways S T (rights_of m) rooted.labels (λ o. refl))
+    own_is = joined_own m rooted S T a b j pa.branch pa.shared is
 
     lent_was : (c : OwnView) → Member c (map ways.back (map (ways.lend m.claims.branch) lent_own)) → Member c m.own × (S c.node.slot ≡ true)
     lent_was c i =

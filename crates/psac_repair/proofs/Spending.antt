@@ -36,7 +36,7 @@ use Rattle.psac_repair.specs.Sparing.{IsFounded, Sparing, Since}
 use Rattle.psac_repair.specs.Repairing.{BeforeIn, Left, LeftPart, Spares, SparesPart, SparesSince, SparesSides}
 use Rattle.psac_repair.proofs.Called.{asked_begins, looked_begins, steps_go, sides_in_turn, blocks_go, bodies_go}
 use Rattle.psac_repair.proofs.Called.{made_goes, wrote_goes}
-use Rattle.psac_repair.proofs.Visiting.{good_then}
+use Rattle.psac_repair.proofs.Visiting.{good_then, bad_told}
 use Rattle.psac_repair.proofs.Founds.{made_founds, wrote_founds}
 use Rattle.psac_repair.proofs.Sparing.{same_since, since_asked, since_looked, since_founded, since_marked, since_all}
 use Rattle.psac_repair.proofs.Sparing.{kept_spares, front_founded, made_spares, wrote_spares}
@@ -51,11 +51,6 @@ good_told T e z is t = subst (λ d. OnGood d T) (sym is) t
 
 pub told_good : (T : Type 0) (e : Ended) (z : Rec Handle) → e ≡ Good z → OnGood e T → T
 told_good T e z is t = subst (λ d. OnGood d T) is t
-
-bad_told : (T : Type 0) (e : Ended) → is_good e ≡ false → OnGood e T
-bad_told T (Good z) bad = absurd cc
-bad_told T (Fault why line) bad = tt
-bad_told T (Other why) bad = tt
 
 -- the record that is left
 new_told : (us : List ℕ) (k u : Kept) (o : Outcome) (z : Rec Handle) (p q : Views) → kept_of o.tree ≡ u

@@ -28,7 +28,7 @@ use Rattle.psac_record.specs.Kept.{Kept, E, A, W, S, P, R, Stands, stands, links
 use Rattle.psac_repair.specs.Taking.{given}
 use Rattle.psac_repair.specs.Unshared.{Unshared}
 use Rattle.psac_repair.specs.Ended.{Ended, Good, Fault, Other, then_ended}
-use Rattle.psac_repair.specs.Outcomes.{OnGood}
+use Rattle.psac_repair.specs.Outcomes.{OnGood, is_good}
 use Rattle.psac_repair.specs.Stood.{Stood, Owned}
 use Rattle.psac_repair.specs.Seen.{Known}
 use Rattle.psac_repair.specs.Marks.{Nodes}
@@ -53,6 +53,11 @@ pub on_good : {A B : Type 0} (e : Ended) → (A → B) → OnGood e A → OnGood
 on_good (Good r) f a = f a
 on_good (Fault why line) f a = tt
 on_good (Other why) f a = tt
+
+pub bad_told : (T : Type 0) (e : Ended) → is_good e ≡ false → OnGood e T
+bad_told T (Good z) bad = absurd cc
+bad_told T (Fault why line) bad = tt
+bad_told T (Other why) bad = tt
 
 pub good_then : {A B : Type 0} (h : Rec Handle → Rec Handle) (e : Ended) → (A → B) → OnGood e A → OnGood (then_ended h e) B
 good_then h (Good r) f a = f a

@@ -79,29 +79,24 @@ module _ (shared to_right : ℕ → Bool) (v : ValueView) where
       inl (a.0, a.1, ap (λ (z : KnownView). z.of) a.3 ∙ of, ap (λ (z : KnownView). z.words) a.3 ∙ words))
       (told_cases shared to_right v e i)
 
-  pub left_back : (h : Handle) (x : Value Handle) → Sees VL h x → Sees v h x
-  left_back h x s = (
+  seen_back : (of : ValueView) → ((w : OwnedView) → Member w of.mine → Member w v.mine)
+      → ((e : KnownView) → Member e of.known → Member e VL.known) → (h : Handle) (x : Value Handle) → Sees of h x → Sees v h x
+  seen_back of mine known h x s = (
     s.0,
     s.1,
     ⊎_elim
-        (λ (a : (w : OwnedView) × Member w VL.mine × (w.of ≡ h) × (w.words ≡ all_words s.0)). inl (a.0, (member_filter (stays ways shared to_right) a.0 v.mine a.1).0, a.2, a.3))
-        (λ (a : (e : KnownView) × Member e VL.known × (e.of ≡ h) × (e.words ≡ all_words s.0)). told_back h s.0 a.0 a.1 a.2 a.3)
+        (λ (a : (w : OwnedView) × Member w of.mine × (w.of ≡ h) × (w.words ≡ all_words s.0)). inl (a.0, mine a.0 a.1, a.2, a.3))
+        (λ (a : (e : KnownView) × Member e of.known × (e.of ≡ h) × (e.words ≡ all_words s.0)). told_back h s.0 a.0 (known a.0 a.1) a.2 a.3)
         s.2,
     s.3,
     s.4,
   )
 
+  pub left_back : (h : Handle) (x : Value Handle) → Sees VL h x → Sees v h x
+  left_back = seen_back VL (λ w i. (member_filter (stays ways shared to_right) w v.mine i).0) (λ e i. i)
+
   pub right_back : (h : Handle) (x : Value Handle) → Sees VR h x → Sees v h x
-  right_back h x s = (
-    s.0,
-    s.1,
-    ⊎_elim
-        (λ (a : (w : OwnedView) × Member w VR.mine × (w.of ≡ h) × (w.words ≡ all_words s.0)). inl (a.0, (member_filter (goes ways shared to_right) a.0 v.mine a.1).0, a.2, a.3))
-        (λ (a : (e : KnownView) × Member e VR.known × (e.of ≡ h) × (e.words ≡ all_words s.0)). told_back h s.0 a.0 a.1 a.2 a.3)
-        s.2,
-    s.3,
-    s.4,
-  )
+  right_back = seen_back VR (λ w i. (member_filter (goes ways shared to_right) w v.mine i).0) (λ e i. i)
 
 -- what both know together one of them knows
 pub seen_parts : (l r j : ValueView) → j ≡ values.joined l r → (h : Handle) (x : Value Handle) → Sees j h x → Sees l h x ⊎ Sees r h x
