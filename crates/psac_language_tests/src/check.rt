@@ -159,130 +159,93 @@ fn other_sorts(rt: HostRuntime) {
 // What is read or written too early, too late or twice.
 #[test]
 fn order_of_writes(rt: HostRuntime) {
-    let rows = [
-        (
-            "func main(; a) {\nread a as x { } }",
-            ReadBeforeWrite { line: 2 },
-        ),
-        (
-            "func main(; a) {\nread 1 as x, a as y { } }",
-            ReadBeforeWrite { line: 2 },
-        ),
-        (
-            "func main(; a) { write a = 1;\ncall f(1; a); } func f(v; d) { write d = v; }",
-            WrittenTwice { line: 2 },
-        ),
-        (
-            "func main(; a) { call f(1; a);\nwrite a = 1; } func f(v; d) { write d = v; }",
-            WrittenTwice { line: 2 },
-        ),
-        (
-            "func main(; a) { read 1 as x { write a = x; }\nwrite a = 1; }",
-            WrittenTwice { line: 2 },
-        ),
-        (
-            "func main(; a) { par { write a = 1; } { }\nwrite a = 1; }",
-            WrittenTwice { line: 2 },
-        ),
-        (
-            "func main(; a) {\nnew b; write a = 1; }",
-            NotWritten { line: 2 },
-        ),
-        (
-            "func main(; a) { write a = 1; read 1 as x {\nnew b; } }",
-            NotWritten { line: 2 },
-        ),
-        (
-            "func main(; a) { write a = 1; par { } {\nnew b; } }",
-            NotWritten { line: 2 },
-        ),
+    for text in [
+        "func main(; a) {\nread a as x { } }",
+        "func main(; a) {\nread 1 as x, a as y { } }",
+    ] {
+        assert!(rt; first_fault(rt.alloc(), text) == Some(ReadBeforeWrite { line: 2 }));
+    }
+    for text in [
+        "func main(; a) { write a = 1;\ncall f(1; a); } func f(v; d) { write d = v; }",
+        "func main(; a) { call f(1; a);\nwrite a = 1; } func f(v; d) { write d = v; }",
+        "func main(; a) { read 1 as x { write a = x; }\nwrite a = 1; }",
+        "func main(; a) { par { write a = 1; } { }\nwrite a = 1; }",
+    ] {
+        assert!(rt; first_fault(rt.alloc(), text) == Some(WrittenTwice { line: 2 }));
+    }
+    for text in [
+        "func main(; a) {\nnew b; write a = 1; }",
+        "func main(; a) { write a = 1; read 1 as x {\nnew b; } }",
+        "func main(; a) { write a = 1; par { } {\nnew b; } }",
         // The earliest one, and each before the header's.
-        (
-            "func main(; a) {\nnew b;\nnew c; write c = 1; }",
-            NotWritten { line: 2 },
-        ),
-        (
-            "func main(; a) { write a = 1; }\nfunc f(; d) { }",
-            NotWritten { line: 2 },
-        ),
-    ];
-    for (text, fault) in rows {
-        assert!(rt; first_fault(rt.alloc(), text) == Some(fault));
+        "func main(; a) {\nnew b;\nnew c; write c = 1; }",
+        "func main(; a) { write a = 1; }\nfunc f(; d) { }",
+    ] {
+        assert!(rt; first_fault(rt.alloc(), text) == Some(NotWritten { line: 2 }));
     }
 }
 
 // Two faults in one statement: the one that stands first.
 #[test]
 fn two_in_one_statement(rt: HostRuntime) {
-    let rows = [
-        ("func main(; a) {\nlet a = n; }", Rebound { line: 2 }),
-        ("func main(; a) {\nwrite n = a; }", UnknownName { line: 2 }),
-        (
-            "func main(; a) { write a = 1;\nwrite a = n; }",
-            WrittenTwice { line: 2 },
-        ),
-        (
-            "func main(; a) {\nread a as a { } }",
-            ReadBeforeWrite { line: 2 },
-        ),
-        (
-            "func main(; a) {\nread 1 as a, n as x { } }",
-            Rebound { line: 2 },
-        ),
-        (
-            "func main(; a) {\nread n as x, 1 as a { } }",
-            UnknownName { line: 2 },
-        ),
-        (
-            "func main(; a) {\nlet x = cell(a, n); }",
-            WrongSort { line: 2 },
-        ),
-        (
-            "func main(; a) {\nlet x = cell(n, a); }",
-            UnknownName { line: 2 },
-        ),
-    ];
-    for (text, fault) in rows {
-        assert!(rt; first_fault(rt.alloc(), text) == Some(fault));
+    for text in [
+        "func main(; a) {\nlet a = n; }",
+        "func main(; a) {\nread 1 as a, n as x { } }",
+    ] {
+        assert!(rt; first_fault(rt.alloc(), text) == Some(Rebound { line: 2 }));
     }
+    for text in [
+        "func main(; a) {\nwrite n = a; }",
+        "func main(; a) {\nread n as x, 1 as a { } }",
+        "func main(; a) {\nlet x = cell(n, a); }",
+    ] {
+        assert!(rt; first_fault(rt.alloc(), text) == Some(UnknownName { line: 2 }));
+    }
+    assert!(rt;
+        first_fault(rt.alloc(), "func main(; a) { write a = 1;\nwrite a = n; }")
+            == Some(WrittenTwice { line: 2 })
+    );
+    assert!(rt;
+        first_fault(rt.alloc(), "func main(; a) {\nread a as a { } }")
+            == Some(ReadBeforeWrite { line: 2 })
+    );
+    assert!(rt;
+        first_fault(rt.alloc(), "func main(; a) {\nlet x = cell(a, n); }")
+            == Some(WrongSort { line: 2 })
+    );
 }
 
 // The faults of a call in their order: its function, each value, their number, each destination, their number.
 #[test]
 fn in_a_call(rt: HostRuntime) {
-    let rows = [
-        (
-            "func main(; a) {\ncall g(n; a); }",
-            UnknownFunction { line: 2 },
-        ),
-        (
-            "func main(; a) {\ncall f(a, n; a); } func f(v; d) { write d = v; }",
-            WrongSort { line: 2 },
-        ),
-        (
-            "func main(; a) {\ncall f(n, a; a); } func f(v; d) { write d = v; }",
-            UnknownName { line: 2 },
-        ),
-        (
-            "func main(; a) {\ncall f(1, 2; n); } func f(v; d) { write d = v; }",
-            Arity { line: 2 },
-        ),
-        (
-            "func main(; a) {\ncall f(1; n, a); } func f(v; d) { write d = v; }",
-            UnknownName { line: 2 },
-        ),
-        (
-            "func main(; a) {\ncall f(1; a, a); } func f(v; d) { write d = v; }",
-            WrittenTwice { line: 2 },
-        ),
-        (
-            "func main(; a) {\ncall f(1;); } func f(v; d) { write d = v; }",
-            Arity { line: 2 },
-        ),
-    ];
-    for (text, fault) in rows {
-        assert!(rt; first_fault(rt.alloc(), text) == Some(fault));
+    assert!(rt;
+        first_fault(rt.alloc(), "func main(; a) {\ncall g(n; a); }")
+            == Some(UnknownFunction { line: 2 })
+    );
+    assert!(rt;
+        first_fault(
+            rt.alloc(),
+            "func main(; a) {\ncall f(a, n; a); } func f(v; d) { write d = v; }"
+        ) == Some(WrongSort { line: 2 })
+    );
+    for text in [
+        "func main(; a) {\ncall f(n, a; a); } func f(v; d) { write d = v; }",
+        "func main(; a) {\ncall f(1; n, a); } func f(v; d) { write d = v; }",
+    ] {
+        assert!(rt; first_fault(rt.alloc(), text) == Some(UnknownName { line: 2 }));
     }
+    for text in [
+        "func main(; a) {\ncall f(1, 2; n); } func f(v; d) { write d = v; }",
+        "func main(; a) {\ncall f(1;); } func f(v; d) { write d = v; }",
+    ] {
+        assert!(rt; first_fault(rt.alloc(), text) == Some(Arity { line: 2 }));
+    }
+    assert!(rt;
+        first_fault(
+            rt.alloc(),
+            "func main(; a) {\ncall f(1; a, a); } func f(v; d) { write d = v; }"
+        ) == Some(WrittenTwice { line: 2 })
+    );
 }
 
 // Headers go before main, main before the bodies, and the bodies in text order.

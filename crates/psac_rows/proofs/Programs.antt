@@ -1,77 +1,59 @@
 -- Each program's text is read as its tree: names, operators, numbers of blocks, and the line of each statement.
 -- And the series rule refuses it with its line, or accepts it.
-use Rattle.std.proofs.Common.{◌≡◌, ◌≤◌, leb, true, List, [], ◌∷◌, length, refl, subst, arith}
+use Rattle.std.proofs.Common.{◌≡◌, ◌≤◌, ℕ, Bool, leb, true, List, [], ◌∷◌, length, map, All, refl, ap, subst, arith}
+use Rattle.std.proofs.lemmas.List.Elements.{All-nil, All-cons}
 use Rattle.std.proofs.lemmas.Bool.Decides.{nat_tests}
 use Rattle.psac_tokens.specs.Lex.{reserved, front, lexemes_from}
 use Rattle.psac_tokens.specs.Number.{tokens}
 use Rattle.psac_grammar.specs.Grammar.{operator_at}
 use Rattle.psac_grammar.specs.Language.{IsProgram, program, max_bytes}
-use Rattle.psac_grammar.specs.Machine.{of_funcs, accepted, all_limits, nothing_behind, move, step, run_with, start, begun}
+use Rattle.psac_grammar.specs.Machine.{Answer, of_funcs, accepted, all_limits, nothing_behind, move, step, run_with, start, begun}
 use Rattle.psac_grammar.proofs.Whole.{accepted_program}
+use Rattle.psac_syntax.specs.declared.program.Program.{Program}
 use Rattle.psac_model.specs.Series.{meets}
 use Rattle.psac_rows.specs.Opened.{opened, line_told}
-use Rattle.psac_rows.specs.Programs.{Row}
-use Rattle.psac_rows.specs.Programs as programs
+use Rattle.psac_rows.specs.Programs.{Row, all_programs}
 
-record Stands : Type 0 where
-  row : Row
+record Stands (row : Row) : Type 0 where
   read : IsProgram row.text row.tree
   told : line_told (meets row.tree) ≡ row.told
 
-stands : (row : Row) → leb (length row.text) max_bytes ≡ true
-    → run_with all_limits (tokens row.text) nothing_behind start begun ≡ accepted (of_funcs row.tree.funcs ∷ [])
-    → program row.text row.tree.funcs ≡ row.tree → line_told (meets row.tree) ≡ row.told → Stands
-stands row short runs whole told =
+-- Of a row: that its text isn't too long, where the grammar's run over it ends, its program and what is told of it.
+-- Once as they are computed from the row's text and tree, and once as the row has them.
+abbrev Computed : Type 0
+Computed = Bool × (Answer × (Program × List ℕ))
+
+abbrev computed : Row → Computed
+computed row =
+    let run = run_with all_limits (tokens row.text) nothing_behind start begun in
+    (leb (length row.text) max_bytes, (run, (program row.text row.tree.funcs, line_told (meets row.tree))))
+
+abbrev held : Row → Computed
+held row = (true, (accepted (of_funcs row.tree.funcs ∷ []), (row.tree, row.told)))
+
+stands : (row : Row) → computed row ≡ held row → Stands row
+stands row same =
+    let short : leb (length row.text) max_bytes ≡ true = ap (λ it. it.0) same in
     let within : length row.text ≤ max_bytes = grind (arith, nat_tests) in
+    let as_run = accepted_program row.text row.tree.funcs within (ap (λ it. it.1.0) same) in
     record {
-      row = row;
-      read = subst (IsProgram row.text) whole (accepted_program row.text row.tree.funcs within runs);
-      told = told;
+      read = subst (IsProgram row.text) (ap (λ it. it.1.1.0) same) as_run;
+      told = ap (λ it. it.1.1.1) same;
     }
 
-all_stand : List Stands
+first : (x y : Computed) (xs ys : List Computed) → x ∷ xs ≡ y ∷ ys → x ≡ y
+first x y xs ys same = cc
+
+others : (x y : Computed) (xs ys : List Computed) → x ∷ xs ≡ y ∷ ys → xs ≡ ys
+others x y xs ys same = cc
+
+each_stands : (rows : List Row) → map computed rows ≡ map held rows → All Stands rows
+each_stands [] same = All-nil Stands
+each_stands (row ∷ rows) same =
+    All-cons Stands row rows
+    (stands row (first (computed row) (held row) (map computed rows) (map held rows) same))
+    (each_stands rows (others (computed row) (held row) (map computed rows) (map held rows) same))
+
+all_stand : All Stands all_programs
 unfolding opened run_with step move operator_at front lexemes_from reserved
-all_stand =
-    (stands programs.sum refl refl refl refl ∷
-    stands programs.double refl refl refl refl ∷
-    stands programs.made_again refl refl refl refl ∷
-    stands programs.nested refl refl refl refl ∷
-    stands programs.two_outputs refl refl refl refl ∷
-    stands programs.deep refl refl refl refl ∷
-    stands programs.both_fault refl refl refl refl ∷
-    stands programs.empty refl refl refl refl ∷
-    stands programs.reads_across refl refl refl refl ∷
-    stands programs.branches_differ refl refl refl refl ∷
-    stands programs.both_write refl refl refl refl ∷
-    stands programs.quoted_cell refl refl refl refl ∷
-    stands programs.add_one refl refl refl refl ∷
-    stands programs.sales refl refl refl refl ∷
-    stands programs.pair_of refl refl refl refl ∷
-    stands programs.two_quotients refl refl refl refl ∷
-    stands programs.deep_read refl refl refl refl ∷
-    stands programs.many_pars refl refl refl refl ∷
-    stands programs.present_sum refl refl refl refl ∷
-    stands programs.too_deep refl refl refl refl ∷
-    stands programs.too_deep_read refl refl refl refl ∷
-    stands programs.unknown_name refl refl refl refl ∷
-    stands programs.rebound_parameter refl refl refl refl ∷
-    stands programs.written_again refl refl refl refl ∷
-    stands programs.not_written refl refl refl refl ∷
-    stands programs.unknown_function refl refl refl refl ∷
-    stands programs.too_many_values refl refl refl refl ∷
-    stands programs.no_main refl refl refl refl ∷
-    stands programs.main_with_values refl refl refl refl ∷
-    stands programs.write_of_itself refl refl refl refl ∷
-    stands programs.new_not_written refl refl refl refl ∷
-    stands programs.one_name_for_two_reads refl refl refl refl ∷
-    stands programs.one_destination_twice refl refl refl refl ∷
-    stands programs.right_takes_from_left refl refl refl refl ∷
-    stands programs.output_read_first refl refl refl refl ∷
-    stands programs.new_read_first refl refl refl refl ∷
-    stands programs.let_of_itself refl refl refl refl ∷
-    stands programs.unknown_destination refl refl refl refl ∷
-    stands programs.two_functions_of_one_name refl refl refl refl ∷
-    stands programs.two_parameters_of_one_name refl refl refl refl ∷
-    stands programs.branches_in_two_orders refl refl refl refl ∷
-    stands programs.write_of_a_value refl refl refl refl ∷
-    stands programs.names_leave_scope refl refl refl refl ∷ [])
+all_stand = each_stands all_programs refl

@@ -1,5 +1,5 @@
 -- The worked programs.
-use Rattle.std.specs.Prelude.{ℕ, suc, ◌+◌, pos, true, false, List, [], ◌∷◌, ◌++◌, codes, length, map, unwrap_or}
+use Rattle.std.specs.Prelude.{ℕ, suc, ◌+◌, pos, true, List, [], ◌∷◌, ◌++◌, codes, length, map, unwrap_or}
 use Rattle.std.specs.Fmt.{decimal}
 use Prim.Native.String.{String}
 use Rattle.psac_ops.specs.declared.op.Op.{Op}
@@ -71,6 +71,29 @@ sum_by_halves =
     "  }" ∷
     "}" ∷ [])
 
+-- What stands from this line on in the function of this name, whose values and destination are the names behind it:
+-- the values are halved at `mid`, behind which stand the names of two destinations, and what the halves give is read
+-- as `x` and `y`.
+abbrev pub by_halves : ℕ → ℕ → ℕ → ℕ → ℕ → ℕ → List Stmt
+by_halves line name mid block x y =
+    s.Let line mid (binary o.Div (binary o.Add (e.Name (name + 1)) (e.Name (name + 2))) (int 2)) ∷
+    s.New (line + 1) (mid + 1) ∷
+    s.New (line + 2) (mid + 2) ∷
+    s.Par (line + 3)
+    (s.Call (line + 3) name (e.Name (name + 1) ∷ e.Name mid ∷ []) ((mid + 1) ∷ []) ∷ [])
+    (s.Call (line + 3) name (e.Name mid ∷ e.Name (name + 2) ∷ []) ((mid + 2) ∷ []) ∷ []) ∷
+    s.Read (line + 4) block (reads x (e.Name (mid + 1)) ∷ reads y (e.Name (mid + 2)) ∷ [])
+    (s.Write (line + 4) (name + 3) (binary o.Add (e.Name x) (e.Name y)) ∷ []) ∷ []
+
+-- what the grammar reads in the text above, from the first name, line and block on
+abbrev pub summing : ℕ → ℕ → ℕ → Func
+summing name line block =
+    func name ((name + 1) ∷ (name + 2) ∷ []) ((name + 3) ∷ []) line
+    (s.If (line + 1) (binary o.Eq (binary o.Sub (e.Name (name + 2)) (e.Name (name + 1))) (int 1))
+    (s.Read (line + 2) block (reads (name + 4) (e.Cell (e.Name (name + 1)) (int 0)) ∷ [])
+    (s.Write (line + 2) (name + 3) (e.Name (name + 4)) ∷ []) ∷ [])
+    (by_halves (line + 4) name (name + 5) (block + 1) (name + 4) (name + 8)) ∷ [])
+
 abbrev pub sum : Row
 sum =
     record {
@@ -83,37 +106,24 @@ sum =
       tree =
           parsed ("main" ∷ "out" ∷ "sum" ∷ "lo" ∷ "hi" ∷ "d" ∷ "x" ∷ "mid" ∷ "a" ∷ "b" ∷ "y" ∷ []) [] 2
           (func 0 [] (1 ∷ []) 1 (s.Call 2 2 (int 0 ∷ e.Rows ∷ []) (1 ∷ []) ∷ []) ∷
-          func 2 (3 ∷ 4 ∷ []) (5 ∷ []) 4
-          (s.If 5 (binary o.Eq (binary o.Sub (e.Name 4) (e.Name 3)) (int 1))
-          (s.Read 6 0 (reads 6 (e.Cell (e.Name 3) (int 0)) ∷ []) (s.Write 6 5 (e.Name 6) ∷ []) ∷ [])
-          (s.Let 8 7 (binary o.Div (binary o.Add (e.Name 3) (e.Name 4)) (int 2)) ∷
-          s.New 9 8 ∷
-          s.New 10 9 ∷
-          s.Par 11
-          (s.Call 11 2 (e.Name 3 ∷ e.Name 7 ∷ []) (8 ∷ []) ∷ [])
-          (s.Call 11 2 (e.Name 7 ∷ e.Name 4 ∷ []) (9 ∷ []) ∷ []) ∷
-          s.Read 12 1 (reads 6 (e.Name 8) ∷ reads 10 (e.Name 9) ∷ [])
-          (s.Write 12 5 (binary o.Add (e.Name 6) (e.Name 10)) ∷ []) ∷ []) ∷ []) ∷ []);
+          summing 2 4 0 ∷ []);
+      told = [];
+    }
+
+-- one cell is read, and in its block one line writes this value
+abbrev pub of_one_cell : String → Expr → Row
+of_one_cell line value =
+    record {
+      text = lines ("func main(; out) {" ∷ "  read cell(0, 0) as x {" ∷ line ∷ "  }" ∷ "}" ∷ []);
+      tree =
+          parsed ("main" ∷ "out" ∷ "x" ∷ []) [] 1
+          (func 0 [] (1 ∷ []) 1
+          (s.Read 2 0 (reads 2 (e.Cell (int 0) (int 0)) ∷ []) (s.Write 3 1 value ∷ []) ∷ []) ∷ []);
       told = [];
     }
 
 abbrev pub double : Row
-double =
-    record {
-      text =
-          lines
-          ("func main(; out) {" ∷
-          "  read cell(0, 0) as x {" ∷
-          "    write out = x * 2;" ∷
-          "  }" ∷
-          "}" ∷ []);
-      tree =
-          parsed ("main" ∷ "out" ∷ "x" ∷ []) [] 1
-          (func 0 [] (1 ∷ []) 1
-          (s.Read 2 0 (reads 2 (e.Cell (int 0) (int 0)) ∷ [])
-          (s.Write 3 1 (binary o.Mul (e.Name 2) (int 2)) ∷ []) ∷ []) ∷ []);
-      told = [];
-    }
+double = of_one_cell "    write out = x * 2;" (binary o.Mul (e.Name 2) (int 2))
 
 abbrev pub made_again : Row
 made_again =
@@ -311,22 +321,7 @@ quoted_cell =
     }
 
 abbrev pub add_one : Row
-add_one =
-    record {
-      text =
-          lines
-          ("func main(; out) {" ∷
-          "  read cell(0, 0) as x {" ∷
-          "    write out = x + 1;" ∷
-          "  }" ∷
-          "}" ∷ []);
-      tree =
-          parsed ("main" ∷ "out" ∷ "x" ∷ []) [] 1
-          (func 0 [] (1 ∷ []) 1
-          (s.Read 2 0 (reads 2 (e.Cell (int 0) (int 0)) ∷ [])
-          (s.Write 3 1 (binary o.Add (e.Name 2) (int 1)) ∷ []) ∷ []) ∷ []);
-      told = [];
-    }
+add_one = of_one_cell "    write out = x + 1;" (binary o.Add (e.Name 2) (int 1))
 
 abbrev pub sales : Row
 sales =
@@ -366,14 +361,7 @@ sales =
           (s.If 11 (binary o.Eq (e.Name 6) (e.Text 0))
           (s.Write 11 5 (e.Name 7) ∷ [])
           (s.Write 11 5 (int 0) ∷ []) ∷ []) ∷ [])
-          (s.Let 14 8 (binary o.Div (binary o.Add (e.Name 3) (e.Name 4)) (int 2)) ∷
-          s.New 15 9 ∷
-          s.New 16 10 ∷
-          s.Par 17
-          (s.Call 17 2 (e.Name 3 ∷ e.Name 8 ∷ []) (9 ∷ []) ∷ [])
-          (s.Call 17 2 (e.Name 8 ∷ e.Name 4 ∷ []) (10 ∷ []) ∷ []) ∷
-          s.Read 18 1 (reads 11 (e.Name 9) ∷ reads 12 (e.Name 10) ∷ [])
-          (s.Write 18 5 (binary o.Add (e.Name 11) (e.Name 12)) ∷ []) ∷ []) ∷ []) ∷ []);
+          (by_halves 14 2 8 1 11 12) ∷ []) ∷ []);
       told = [];
     }
 
@@ -463,17 +451,7 @@ present_sum =
           (s.If 3 (binary o.Eq (e.Name 2) (int 0))
           (s.Write 3 1 (int 0) ∷ [])
           (s.Call 3 3 (int 0 ∷ e.Name 2 ∷ []) (1 ∷ []) ∷ []) ∷ []) ∷ []) ∷
-          func 3 (4 ∷ 5 ∷ []) (6 ∷ []) 6
-          (s.If 7 (binary o.Eq (binary o.Sub (e.Name 5) (e.Name 4)) (int 1))
-          (s.Read 8 1 (reads 7 (e.Cell (e.Name 4) (int 0)) ∷ []) (s.Write 8 6 (e.Name 7) ∷ []) ∷ [])
-          (s.Let 10 8 (binary o.Div (binary o.Add (e.Name 4) (e.Name 5)) (int 2)) ∷
-          s.New 11 9 ∷
-          s.New 12 10 ∷
-          s.Par 13
-          (s.Call 13 3 (e.Name 4 ∷ e.Name 8 ∷ []) (9 ∷ []) ∷ [])
-          (s.Call 13 3 (e.Name 8 ∷ e.Name 5 ∷ []) (10 ∷ []) ∷ []) ∷
-          s.Read 14 2 (reads 7 (e.Name 9) ∷ reads 11 (e.Name 10) ∷ [])
-          (s.Write 14 6 (binary o.Add (e.Name 7) (e.Name 11)) ∷ []) ∷ []) ∷ []) ∷ []);
+          summing 3 6 1 ∷ []);
       told = [];
     }
 
@@ -708,3 +686,43 @@ names_leave_scope =
           s.Let 1 2 (int 3) ∷ []) ∷ []);
       told = [];
     }
+
+-- programs that follow the rule, and whose runs come to an end over an input that suits them
+abbrev pub that_end : List Row
+that_end =
+    sum ∷ double ∷ made_again ∷ nested ∷ two_outputs ∷ empty ∷ quoted_cell ∷ add_one ∷ sales ∷ pair_of ∷
+    many_pars ∷ present_sum ∷ []
+
+-- the others that follow the rule
+abbrev pub others_in_series : List Row
+others_in_series =
+    deep ∷ deep_read ∷ too_deep ∷ too_deep_read ∷ both_fault ∷ two_quotients ∷ branches_in_two_orders ∷
+    names_leave_scope ∷ []
+
+-- programs that the rule refuses for a name
+abbrev pub with_wrong_names : List Row
+with_wrong_names =
+    unknown_name ∷ unknown_destination ∷ unknown_function ∷ let_of_itself ∷ rebound_parameter ∷
+    one_name_for_two_reads ∷ []
+
+-- programs that the rule refuses for a header
+abbrev pub with_wrong_headers : List Row
+with_wrong_headers =
+    no_main ∷ main_with_values ∷ two_functions_of_one_name ∷ two_parameters_of_one_name ∷ too_many_values ∷ []
+
+-- programs that the rule refuses for a write
+abbrev pub with_wrong_writes : List Row
+with_wrong_writes =
+    written_again ∷ not_written ∷ new_not_written ∷ both_write ∷ branches_differ ∷ one_destination_twice ∷ []
+
+-- programs that the rule refuses for what is used where it can't be
+abbrev pub with_wrong_places : List Row
+with_wrong_places =
+    reads_across ∷ output_read_first ∷ new_read_first ∷ right_takes_from_left ∷ write_of_itself ∷
+    write_of_a_value ∷ []
+
+-- every program of this file
+abbrev pub all_programs : List Row
+all_programs =
+    that_end ++ others_in_series
+    ++ with_wrong_names ++ with_wrong_headers ++ with_wrong_writes ++ with_wrong_places
