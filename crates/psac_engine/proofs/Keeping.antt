@@ -17,8 +17,8 @@ use Rattle.psac_engine.specs.Sound.{world_with}
 use Rattle.psac_engine.proofs.Kept.{record_out}
 
 -- with the pass and the record taken out of the engine, and its texts as a slice
-module _ (e : Engine) (few : e.commits < 1000000000) (p : Pass) (at : e.pass ≡ Some p) (kept : Option Record) (same : kept ≡ e.kept)
-    (ts : List TextId) (texts : ts ≡ e.consts.items) where
+module _ (e : Engine) (few : e.commits < 1000000000) {p : Pass} (at : e.pass ≡ Some p) {kept : Option Record} (same : kept ≡ e.kept)
+    {ts : List TextId} (texts : ts ≡ e.consts.items) where
   abbrev pub w : World
   w = world_with e.program e.consts.items
 
@@ -48,11 +48,11 @@ module _ (e : Engine) (few : e.commits < 1000000000) (p : Pass) (at : e.pass ≡
   abbrev pub before : Option Grid
   before = option_map (λ (r : Record). e.grid) kept
 
-  pub ran : (h : Grid) (q : Pass) (told end : Result (Work × Record) Answer) → told ≡ end
+  pub ran : (h : Grid) (q : Pass) {told end : Result (Work × Record) Answer} → told ≡ end
       → ((caps : Caps) (n : ℕ) → IsCaps caps → n + 2 < 4294967295 → Keeps (world_with e.program ts) e.grid caps n e.tables kept p
       → HasRunFrom (world_with e.program ts) before h caps (n + 1) q told)
       → HasRunFrom w before h e.caps (age + 1) q end
-  ran h q told end is run =
+  ran h q {told} {end} is run =
       subst (λ (o : Result (Work × Record) Answer). HasRunFrom w before h e.caps (age + 1) q o) is
       (subst (λ (xs : List TextId). HasRunFrom (world_with e.program xs) before h e.caps (age + 1) q told) texts
       (run e.caps age e.within low keeps))

@@ -29,23 +29,20 @@ use Rattle.psac_engine.proofs.engine.Engine.commit.Goals as goal
 pub commit_on-told-requires-clause-keeps : goal.commit_on-told-requires-clause-keeps
 commit_on-told-requires-clause-keeps g c κs within =
     let e = c.args.self.now in
-    let p = c.in-Some.pass in
     let at = sym c.in-Some.ensures.value in
-    let k = c.take-2.result in
     let same = c.take-2.ensures.value in
     let few : e.commits < 1000000000 = c.requires.few in
     let texts = c.deref.ensures.value in
-    (e.caps, 1 + 2 * e.commits, e.within, low e few p at k same c.deref.result.now texts, keeps e few p at k same c.deref.result.now texts)
+    (e.caps, 1 + 2 * e.commits, e.within, low e few at same texts, keeps e few at same texts)
 
 pub invariant_of-self : goal.invariant_of-self
 invariant_of-self g c =
     let e = c.args.self.now in
     let w = world_with e.program e.consts.items in
     let h = c.commit_on-told.new.grid in
-    let p = c.in-Some.pass in
     let q = c.commit_on-told.result.1 in
-    let run = ran e c.requires.few p (sym c.in-Some.ensures.value) c.take-2.result c.take-2.ensures.value c.deref.result.now c.deref.ensures.value
-    h q c.commit_on-told.result.0 (Ok (c.in-Ok.work, c.in-Ok.record)) c.in-Ok.is c.commit_on-told.ensures.run in
+    let run = ran e c.requires.few (sym c.in-Some.ensures.value) c.take-2.ensures.value c.deref.ensures.value h q
+    c.in-Ok.is c.commit_on-told.ensures.run in
     let outs = length w.main.dests in
     let age = 1 + 2 * e.commits in
     let r = c.in-Ok.record in
@@ -74,10 +71,9 @@ invariant_of-self-in-Err-1 g c =
     let e = c.args.self.now in
     let w = world_with e.program e.consts.items in
     let h = c.commit_on-told.new.grid in
-    let p = c.in-Some.pass in
     let q = c.commit_on-told.result.1 in
-    let run = ran e c.requires.few p (sym c.in-Some.ensures.value) c.take-2.result c.take-2.ensures.value c.deref.result.now c.deref.ensures.value
-    h q c.commit_on-told.result.0 (Err c.in-Err.answer) c.in-Err.is c.commit_on-told.ensures.run in
+    let run = ran e c.requires.few (sym c.in-Some.ensures.value) c.take-2.ensures.value c.deref.ensures.value h q
+    c.in-Err.is c.commit_on-told.ensures.run in
     let outs = length w.main.dests in
     let age = 1 + 2 * e.commits in
     let k = c.take-2.new.self in
@@ -104,23 +100,21 @@ pub returns-in-Ok-clause-answer : goal.returns-in-Ok-clause-answer
 returns-in-Ok-clause-answer g c =
     let e = c.args.self.now in
     let w = world_with e.program e.consts.items in
+    let same = c.take-2.ensures.value in
     let h = c.commit_on-told.new.grid in
-    let p = c.in-Some.pass in
-    let q = c.commit_on-told.result.1 in
-    let run = ran e c.requires.few p (sym c.in-Some.ensures.value) c.take-2.result c.take-2.ensures.value c.deref.result.now c.deref.ensures.value
-    h q c.commit_on-told.result.0 (Ok (c.in-Ok.work, c.in-Ok.record)) c.in-Ok.is c.commit_on-told.ensures.run in
-    answers_kept w e.grid e.caps c.take-2.result e.kept (outcome w e.caps h) (Ok c.in-Ok.work) c.take-2.ensures.value run.4
+    let run = ran e c.requires.few (sym c.in-Some.ensures.value) same c.deref.ensures.value h
+    c.commit_on-told.result.1 c.in-Ok.is c.commit_on-told.ensures.run in
+    answers_kept w e.grid e.caps c.take-2.result e.kept (outcome w e.caps h) (Ok c.in-Ok.work) same run.4
 
 pub returns-in-Err-clause-answer : goal.returns-in-Err-clause-answer
 returns-in-Err-clause-answer g c =
     let e = c.args.self.now in
     let w = world_with e.program e.consts.items in
+    let same = c.take-2.ensures.value in
     let h = c.commit_on-told.new.grid in
-    let p = c.in-Some.pass in
-    let q = c.commit_on-told.result.1 in
-    let run = ran e c.requires.few p (sym c.in-Some.ensures.value) c.take-2.result c.take-2.ensures.value c.deref.result.now c.deref.ensures.value
-    h q c.commit_on-told.result.0 (Err c.in-Err.answer) c.in-Err.is c.commit_on-told.ensures.run in
-    answers_kept w e.grid e.caps c.take-2.result e.kept (outcome w e.caps h) (Err c.in-Err.answer) c.take-2.ensures.value run.2
+    let run = ran e c.requires.few (sym c.in-Some.ensures.value) same c.deref.ensures.value h
+    c.commit_on-told.result.1 c.in-Err.is c.commit_on-told.ensures.run in
+    answers_kept w e.grid e.caps c.take-2.result e.kept (outcome w e.caps h) (Err c.in-Err.answer) same run.2
 
 pub returns-in-Ok-clause-repaired : goal.returns-in-Ok-clause-repaired
 returns-in-Ok-clause-repaired g c = λ mode.
@@ -129,15 +123,14 @@ returns-in-Ok-clause-repaired g c = λ mode.
     let h = c.commit_on-told.new.grid in
     let p = c.in-Some.pass in
     let q = c.commit_on-told.result.1 in
-    let run = ran e c.requires.few p (sym c.in-Some.ensures.value) c.take-2.result c.take-2.ensures.value c.deref.result.now c.deref.ensures.value
-    h q c.commit_on-told.result.0 (Ok (c.in-Ok.work, c.in-Ok.record)) c.in-Ok.is c.commit_on-told.ensures.run in
+    let run = ran e c.requires.few (sym c.in-Some.ensures.value) c.take-2.ensures.value c.deref.ensures.value h q
+    c.in-Ok.is c.commit_on-told.ensures.run in
     let at = sym c.in-Some.ensures.value in
     let k = c.take-2.result in
     let same = c.take-2.ensures.value in
-    let ts = c.deref.result.now in
     let texts = c.deref.ensures.value in
-    let told = c.commit_on-told.ensures.repairs e.caps (1 + 2 * e.commits) e.within (low e c.requires.few p at k same ts texts)
-    (keeps e c.requires.few p at k same ts texts) in
+    let told = c.commit_on-told.ensures.repairs e.caps (1 + 2 * e.commits) e.within (low e c.requires.few at same texts)
+    (keeps e c.requires.few at same texts) in
     let answer = answers_kept w e.grid e.caps k e.kept (outcome w e.caps h) (Ok c.in-Ok.work) same run.4 in
     elim (kept_or e.kept) [
       | inl none ↦ absurd
@@ -190,15 +183,14 @@ returns-in-Ok-clause-handles g c =
     let q = c.commit_on-told.result.1 in
     let r = c.in-Ok.record in
     let work = c.in-Ok.work in
-    let run = ran e c.requires.few p (sym c.in-Some.ensures.value) c.take-2.result c.take-2.ensures.value c.deref.result.now
-    c.deref.ensures.value h q c.commit_on-told.result.0 (Ok (work, r)) c.in-Ok.is c.commit_on-told.ensures.run in
+    let run = ran e c.requires.few (sym c.in-Some.ensures.value) c.take-2.ensures.value c.deref.ensures.value h q
+    c.in-Ok.is c.commit_on-told.ensures.run in
     let at = sym c.in-Some.ensures.value in
     let k = c.take-2.result in
     let same = c.take-2.ensures.value in
-    let ts = c.deref.result.now in
     let texts = c.deref.ensures.value in
-    let told = c.commit_on-told.ensures.repairs e.caps (1 + 2 * e.commits) e.within (low e c.requires.few p at k same ts texts)
-    (keeps e c.requires.few p at k same ts texts) in
+    let told = c.commit_on-told.ensures.repairs e.caps (1 + 2 * e.commits) e.within (low e c.requires.few at same texts)
+    (keeps e c.requires.few at same texts) in
     let answer = answers_kept w e.grid e.caps k e.kept (outcome w e.caps h) (Ok work) same run.4 in
     let s = shape_kept e.grid b h c.commit_on-told.ensures.grid in
     let ages = c.commit_on-told.ensures.ages in
@@ -234,8 +226,8 @@ returns-in-Err-clause-handles g c =
     let p = c.in-Some.pass in
     let q = c.commit_on-told.result.1 in
     let a = c.in-Err.answer in
-    let run = ran e c.requires.few p (sym c.in-Some.ensures.value) c.take-2.result c.take-2.ensures.value c.deref.result.now
-    c.deref.ensures.value h q c.commit_on-told.result.0 (Err a) c.in-Err.is c.commit_on-told.ensures.run in
+    let run = ran e c.requires.few (sym c.in-Some.ensures.value) c.take-2.ensures.value c.deref.ensures.value h q
+    c.in-Err.is c.commit_on-told.ensures.run in
     let at = sym c.in-Some.ensures.value in
     let s = shape_kept e.grid b h c.commit_on-told.ensures.grid in
     let ages = c.commit_on-told.ensures.ages in
