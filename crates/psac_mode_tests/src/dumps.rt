@@ -1,46 +1,38 @@
 // The record of one run as text.
-use crate::whole::{USAGE, gives};
+use crate::whole::{CUT, CUT_LINE, FAULT_LINE, RAGGED, RAGGED_LINE, USAGE, gives, tells};
 use psac_cases::programs::{DOUBLE, TWO_FAULTS};
 use psac_cases::{Case, Outside, SMALL, SOUND, run_of};
 use std::alloc::Global;
 use std::thread::Threads;
+
+const WORDS: &str = "psac dump p.psac i.txt";
 
 const DUMP: &str = "psac record 1\nS\nR 0 out=&o/0 | c/0/0=21\nW o/0 42\nE\nE\n";
 
 fn dump<'a>(program: &'a str, input: &'a str) -> Case<'a> {
     Case {
         options: SMALL,
-        ..run_of("psac dump p.psac i.txt", program, input, "")
+        ..run_of(WORDS, program, input, "")
     }
+}
+
+// Whether a run whose record is too large has no dump.
+fn is_full<Rt: Threads + Sync>(rt: &Rt, alloc: Global) -> bool {
+    let case = Case {
+        options: "--nodes 1",
+        ..dump(DOUBLE, "21\n")
+    };
+    gives(rt, alloc, &case, 0, "full\n")
 }
 
 #[test]
 fn records_of_runs(rt: HostRuntime) {
     let alloc = rt.alloc();
-    assert!(rt; gives(&rt, alloc, &dump(DOUBLE, "21\n"), 0, DUMP));
-    assert!(rt;
-        gives(
-            &rt,
-            alloc,
-            &dump("func main(;) { }", ""),
-            0,
-            "psac record 1\nE\n"
-        )
-    );
-    assert!(rt;
-        gives(
-            &rt,
-            alloc,
-            &dump(TWO_FAULTS, ""),
-            0,
-            "fault divzero line 3\n"
-        )
-    );
-    let full = Case {
-        options: "--nodes 1",
-        ..dump(DOUBLE, "21\n")
-    };
-    assert!(rt; gives(&rt, alloc, &full, 0, "full\n"));
+    let empty = ("func main(;) { }", "", "");
+    assert!(rt; tells(&rt, alloc, WORDS, (DOUBLE, "21\n", ""), 0, DUMP));
+    assert!(rt; tells(&rt, alloc, WORDS, empty, 0, "psac record 1\nE\n"));
+    assert!(rt; tells(&rt, alloc, WORDS, (TWO_FAULTS, "", ""), 0, FAULT_LINE));
+    assert!(rt; is_full(&rt, alloc));
 }
 
 // Whether a dump in this outside ends so.
@@ -88,12 +80,10 @@ fn outsides_that_fail(rt: HostRuntime) {
 #[test]
 fn other_words_and_files(rt: HostRuntime) {
     let alloc = rt.alloc();
-    let fewer = run_of("psac dump p.psac", DOUBLE, "21\n", "");
-    assert!(rt; gives(&rt, alloc, &fewer, 2, USAGE));
-    let more = run_of("psac dump p.psac i.txt more", DOUBLE, "21\n", "");
-    assert!(rt; gives(&rt, alloc, &more, 2, USAGE));
-    let ragged = run_of("psac dump p.psac i.csv", DOUBLE, "1,2\n3\n", "");
-    assert!(rt; gives(&rt, alloc, &ragged, 5, "input record 2 ragged\n"));
-    let cut = dump("func main(; out) { write out = ; }", "");
-    assert!(rt; gives(&rt, alloc, &cut, 4, "program line 1 column 32 syntax\n"));
+    let sound = (DOUBLE, "21\n", "");
+    let ragged = (DOUBLE, RAGGED, "");
+    assert!(rt; tells(&rt, alloc, "psac dump p.psac", sound, 2, USAGE));
+    assert!(rt; tells(&rt, alloc, "psac dump p.psac i.txt more", sound, 2, USAGE));
+    assert!(rt; tells(&rt, alloc, "psac dump p.psac i.csv", ragged, 5, RAGGED_LINE));
+    assert!(rt; tells(&rt, alloc, WORDS, (CUT, "", ""), 4, CUT_LINE));
 }

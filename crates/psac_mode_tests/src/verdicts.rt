@@ -1,55 +1,53 @@
 // Texts that are compared with the record of a run.
-use crate::whole::{USAGE, gives};
+use crate::whole::{CUT, CUT_LINE, FAULT_LINE, RAGGED, RAGGED_LINE, USAGE, gives, tells};
 use psac_cases::programs::{DOUBLE, TWO_FAULTS};
 use psac_cases::{Case, Outside, SMALL, SOUND, run_of};
 use std::alloc::Global;
 use std::thread::Threads;
+
+const CERTIFY: &str = "psac certify p.psac i.txt";
 
 const DUMP: &str = "psac record 1\nS\nR 0 out=&o/0 | c/0/0=21\nW o/0 42\nE\nE\n";
 
 fn certify<'a>(program: &'a str, input: &'a str, text: &'a str) -> Case<'a> {
     Case {
         options: SMALL,
-        ..run_of("psac certify p.psac i.txt", program, input, text)
+        ..run_of(CERTIFY, program, input, text)
     }
 }
 
-// Whether this is what is found of a text, over a program and its input.
-fn finds<Rt: Threads + Sync>(
-    rt: &Rt,
-    alloc: Global,
-    run: (&str, &str),
-    text: &str,
-    verdict: &str,
-) -> bool {
-    let (program, input) = run;
-    gives(rt, alloc, &certify(program, input, text), 0, verdict)
-}
+const OTHER: &str = "psac record 1\nS\nR 0 out=&o/0 | c/0/0=21\nW o/0 43\nE\nE\n";
+
+const SHORTER: &str = "psac record 1\nS\nR 0 out=&o/0 | c/0/0=21\nW o/0 42\nE\nE";
+
+const LONGER: &str = "psac record 1\nS\nR 0 out=&o/0 | c/0/0=21\nW o/0 42\nE\nE\n\n";
 
 #[test]
 fn verdicts(rt: HostRuntime) {
     let alloc = rt.alloc();
-    let other = "psac record 1\nS\nR 0 out=&o/0 | c/0/0=21\nW o/0 43\nE\nE\n";
-    let cut = "psac record 1\nS\nR 0 out=&o/0 | c/0/0=21\nW o/0 42\nE\nE";
-    let longer = "psac record 1\nS\nR 0 out=&o/0 | c/0/0=21\nW o/0 42\nE\nE\n\n";
-    assert!(rt; finds(&rt, alloc, (DOUBLE, "21\n"), DUMP, "yes\n"));
-    assert!(rt; finds(&rt, alloc, (DOUBLE, "21\n"), other, "no 47\n"));
-    assert!(rt; finds(&rt, alloc, (DOUBLE, "21\n"), cut, "no 52\n"));
-    assert!(rt; finds(&rt, alloc, (DOUBLE, "21\n"), longer, "no 53\n"));
-    assert!(rt; finds(&rt, alloc, (DOUBLE, "21\n"), "", "no 0\n"));
-    assert!(rt; finds(&rt, alloc, (DOUBLE, "22\n"), DUMP, "no 38\n"));
+    assert!(rt; tells(&rt, alloc, CERTIFY, (DOUBLE, "21\n", DUMP), 0, "yes\n"));
+    assert!(rt; tells(&rt, alloc, CERTIFY, (DOUBLE, "21\n", OTHER), 0, "no 47\n"));
+    assert!(rt; tells(&rt, alloc, CERTIFY, (DOUBLE, "21\n", SHORTER), 0, "no 52\n"));
+    assert!(rt; tells(&rt, alloc, CERTIFY, (DOUBLE, "21\n", LONGER), 0, "no 53\n"));
+    assert!(rt; tells(&rt, alloc, CERTIFY, (DOUBLE, "21\n", ""), 0, "no 0\n"));
+    assert!(rt; tells(&rt, alloc, CERTIFY, (DOUBLE, "22\n", DUMP), 0, "no 38\n"));
+}
+
+// Whether a run whose record is too large has no verdict.
+fn is_full<Rt: Threads + Sync>(rt: &Rt, alloc: Global) -> bool {
+    let case = Case {
+        options: "--nodes 1",
+        ..certify(DOUBLE, "21\n", DUMP)
+    };
+    gives(rt, alloc, &case, 0, "full\n")
 }
 
 #[test]
 fn runs_without_a_verdict(rt: HostRuntime) {
     let alloc = rt.alloc();
-    assert!(rt; finds(&rt, alloc, (TWO_FAULTS, ""), DUMP, "fault divzero line 3\n"));
-    assert!(rt; finds(&rt, alloc, (TWO_FAULTS, ""), "", "fault divzero line 3\n"));
-    let full = Case {
-        options: "--nodes 1",
-        ..certify(DOUBLE, "21\n", DUMP)
-    };
-    assert!(rt; gives(&rt, alloc, &full, 0, "full\n"));
+    assert!(rt; tells(&rt, alloc, CERTIFY, (TWO_FAULTS, "", DUMP), 0, FAULT_LINE));
+    assert!(rt; tells(&rt, alloc, CERTIFY, (TWO_FAULTS, "", ""), 0, FAULT_LINE));
+    assert!(rt; is_full(&rt, alloc));
 }
 
 // Whether the dump is found to be so in this outside.
@@ -97,12 +95,28 @@ fn loads_and_writes_that_fail(rt: HostRuntime) {
 #[test]
 fn other_words_and_files(rt: HostRuntime) {
     let alloc = rt.alloc();
-    let fewer = run_of("psac certify p.psac", DOUBLE, "21\n", DUMP);
-    assert!(rt; gives(&rt, alloc, &fewer, 2, USAGE));
-    let more = run_of("psac certify p.psac i.txt more", DOUBLE, "21\n", DUMP);
-    assert!(rt; gives(&rt, alloc, &more, 2, USAGE));
-    let ragged = run_of("psac certify p.psac i.csv", DOUBLE, "1,2\n3\n", DUMP);
-    assert!(rt; gives(&rt, alloc, &ragged, 5, "input record 2 ragged\n"));
-    let cut = certify("func main(; out) { write out = ; }", "", DUMP);
-    assert!(rt; gives(&rt, alloc, &cut, 4, "program line 1 column 32 syntax\n"));
+    let sound = (DOUBLE, "21\n", DUMP);
+    let ragged = (DOUBLE, RAGGED, DUMP);
+    assert!(rt; tells(&rt, alloc, "psac certify p.psac", sound, 2, USAGE));
+    assert!(rt;
+        tells(
+            &rt,
+            alloc,
+            "psac certify p.psac i.txt more",
+            sound,
+            2,
+            USAGE
+        )
+    );
+    assert!(rt;
+        tells(
+            &rt,
+            alloc,
+            "psac certify p.psac i.csv",
+            ragged,
+            5,
+            RAGGED_LINE
+        )
+    );
+    assert!(rt; tells(&rt, alloc, CERTIFY, (CUT, "", DUMP), 4, CUT_LINE));
 }

@@ -1,6 +1,6 @@
 // A whole run of one of these modes, by the top call that its words name.
 use psac_bench::bench;
-use psac_cases::{Case, Parts};
+use psac_cases::{Case, Parts, SMALL, run_of};
 use psac_certify::{certified, dumped};
 use psac_command::{TopCall, choose_call};
 use psac_fork::NoGate;
@@ -10,6 +10,19 @@ use std::thread::Threads;
 /// The usage line.
 pub const USAGE: &str =
     "usage: psac MODE PROGRAM INPUT [--workers N] [--nodes N] [--mods N] [--links N] [--rows N]\n";
+
+/// A program that ends too early, with its refusal.
+pub const CUT: &str = "func main(; out) { write out = ; }";
+
+pub const CUT_LINE: &str = "program line 1 column 32 syntax\n";
+
+/// What is told of the program of two faults.
+pub const FAULT_LINE: &str = "fault divzero line 3\n";
+
+/// Records of which the second is too short, with their refusal.
+pub const RAGGED: &str = "1,2\n3\n";
+
+pub const RAGGED_LINE: &str = "input record 2 ragged\n";
 
 // The status with which a run ends; nothing where its words name another mode.
 fn status<Rt: Threads + Sync>(rt: &Rt, alloc: Global, parts: &mut Parts) -> Option<u8> {
@@ -40,4 +53,21 @@ pub fn gives<Rt: Threads + Sync>(
         return false;
     };
     status(rt, alloc, &mut parts) == Some(code) && parts.out.bytes() == Some(text.as_bytes())
+}
+
+/// The same of these words over a program, an input, and a text that is compared.
+pub fn tells<Rt: Threads + Sync>(
+    rt: &Rt,
+    alloc: Global,
+    words: &str,
+    files: (&str, &str, &str),
+    code: u8,
+    text: &str,
+) -> bool {
+    let (program, input, compared) = files;
+    let case = Case {
+        options: SMALL,
+        ..run_of(words, program, input, compared)
+    };
+    gives(rt, alloc, &case, code, text)
 }
